@@ -1,0 +1,9 @@
+pub mod Faults
+pub mod Gains
+pub mod Growing
+pub mod Judged
+pub mod Lending
+pub mod MemFile
+pub mod MemLibrary
+pub mod Status
+pub mod formers
