@@ -1,0 +1,9 @@
+//! The answers of numbered jobs up to the first hit, found by many workers.
+#![tactic(auto)]
+
+mod jobs;
+mod scanning;
+mod shares;
+
+pub use jobs::Jobs;
+pub use scanning::scan;
