@@ -4,6 +4,8 @@
 mod jobs;
 mod scanning;
 mod shares;
+#[cfg(test)]
+mod tests;
 
 pub use jobs::Jobs;
 pub use scanning::scan;
