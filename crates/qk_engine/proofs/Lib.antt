@@ -1,2 +1,4 @@
+pub mod Attempts
 pub mod Forms
 pub mod Numerals
+pub mod Texts
