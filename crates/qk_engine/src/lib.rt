@@ -1,15 +1,16 @@
-//! The top call.
+//! The top call: from the words and a library to a report in a sink.
 #![tactic(auto)]
 
 mod attempting;
 mod form;
+mod made;
 mod numeral;
-mod sequential;
+mod replying;
 mod report;
+mod sequential;
 mod text;
+mod top;
+mod words;
 
-pub use attempting::{attempt, draw};
-pub use form::{Form, parse};
-pub use sequential::{Ended, run_attempts};
-pub use report::{put_block, totals};
-pub use text::{put, put_last_line};
+pub use made::Made;
+pub use top::{run, run_into};

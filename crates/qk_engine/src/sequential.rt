@@ -1,5 +1,5 @@
 //! The sequential loop.
-ghost use Rattle.std.specs.Prelude.{◌≡◌, IfOk};
+ghost use Rattle.std.specs.Prelude.{◌≡◌, ◌≤◌, IfOk};
 ghost use Rattle.qk_engine.specs.Attempt.{outcome};
 ghost use Rattle.qk_schedule.specs.Quick.{rules_of};
 ghost use Rattle.qk_schedule.specs.Schedule.{InRange};
@@ -24,7 +24,8 @@ pub struct Ended {
 pub fn run_attempts(alloc: Global, form: &Form, limits: Limits, seed: u64) -> Result<Ended, Memory>
     requires range { InRange limits }
     requires covers { limits.covers ≡ 0 }
-    ensures { IfOk result (λ ended. IsEnded ended (sequential (rules_of limits) (outcome form.now seed))) }
+    ensures few { IfOk result (λ ended. ended.state.successes ≤ limits.success) }
+    ensures run { IfOk result (λ ended. IsEnded ended (sequential (rules_of limits) (outcome form.now seed))) }
 {
     let course = QuickCourse::make(limits);
     let mut state = course.start(alloc)?;

@@ -21,8 +21,8 @@ loop-stop-init c =
       so_far = ([], ap (λ (s : Counts). from (rules_of c.args.limits) (outcome c.args.form.now c.args.seed) s 0 []) begins);
     }
 
-pub returns-in-Fail : goal.returns-in-Fail
-returns-in-Fail c =
+pub returns-in-Fail-clause-run : goal.returns-in-Fail-clause-run
+returns-in-Fail-clause-run c =
     let so_far = c.loop-stop.invariant.so_far in
     let running : stop_at c.args.limits c.loop-stop.state ≡ None = ap (λ (l : Limits). stop_at l c.loop-stop.state) (sym c.make-course.ensures) ∙ sym c.stop.ensures ∙ c.in_default.is in
     let is_size : c.size-size.result ≡ size_at c.args.limits c.loop-stop.state.successes c.loop-stop.state.recent = c.size-size.ensures.size ∙ ap (λ (l : Limits). size_at l c.loop-stop.state.successes c.loop-stop.state.recent) c.make-course.ensures in
