@@ -31,9 +31,9 @@ after_name form ending = low_text ++ (signed_decimal form.low ++ after_low form 
 module _ (bytes : List ℕ) (form : Form) (is : IsForm bytes form) where
   pub ending_stops : (ending : List ℕ) → IsEnding ending → IsPart (after_high form ending) bound_text form.bound ending
   ending_stops ending e = elim e as (λ _. IsPart (after_high form ending) bound_text form.bound ending) [
-      inl h ↦ record { fits = is.bound; stops = subst IsStop (sym h) refl; text = refl }
+    | inl h ↦ record { fits = is.bound; stops = subst IsStop (sym h) refl; text = refl }
     | inr h ↦ record { fits = is.bound; stops = subst IsStop (sym h) refl; text = refl }
-    ]
+  ]
 
   pub high_part : (ending : List ℕ) → IsPart (after_low form ending) high_text form.high (after_high form ending)
   high_part ending = record { fits = is.high; stops = refl; text = refl }

@@ -34,13 +34,13 @@ stops_behind [] zero e le = tt
 stops_behind [] (suc k) e le = tt
 stops_behind (b ∷ bs) zero e le =
     elim (is_numeral_byte b) as (λ t. is_numeral_byte b ≡ t → is_numeral_byte b ≡ false) [
-      true ↦ λ h. let cons = take_while-cons is_numeral_byte b bs ∙ ap (λ (t : Bool). cond t (b ∷ take_while is_numeral_byte bs) []) h in absurd (let both = e ∙ cons in cc)
-    | false ↦ λ h. h
+      | true ↦ λ h. let cons = take_while-cons is_numeral_byte b bs ∙ ap (λ (t : Bool). cond t (b ∷ take_while is_numeral_byte bs) []) h in absurd (let both = e ∙ cons in cc)
+      | false ↦ λ h. h
     ] refl
 stops_behind (b ∷ bs) (suc k) e le =
     elim (is_numeral_byte b) as (λ t. is_numeral_byte b ≡ t → IsStop (drop k bs)) [
-      true ↦ λ h. let cons = take_while-cons is_numeral_byte b bs ∙ ap (λ (t : Bool). cond t (b ∷ take_while is_numeral_byte bs) []) h in stops_behind bs k (let both = e ∙ cons in cc) (omega arith)
-    | false ↦ λ h. let cons = take_while-cons is_numeral_byte b bs ∙ ap (λ (t : Bool). cond t (b ∷ take_while is_numeral_byte bs) []) h in absurd (let both = e ∙ cons in cc)
+      | true ↦ λ h. let cons = take_while-cons is_numeral_byte b bs ∙ ap (λ (t : Bool). cond t (b ∷ take_while is_numeral_byte bs) []) h in stops_behind bs k (let both = e ∙ cons in cc) (omega arith)
+      | false ↦ λ h. let cons = take_while-cons is_numeral_byte b bs ∙ ap (λ (t : Bool). cond t (b ∷ take_while is_numeral_byte bs) []) h in absurd (let both = e ∙ cons in cc)
     ] refl
 
 pub digits_are_numeral : (bs : List ℕ) → AllDigits 10 bs → all_numeral bs
@@ -56,7 +56,7 @@ number_is_numeral (negsuc n) fits = (refl, digits_are_numeral (decimal (suc n)) 
 
 -- a text has one number at a place
 pub one_number : (m n : ℤ) (more rest : List ℕ) → FitsSigned w64 m → FitsSigned w64 n → IsStop more → IsStop rest
-  → signed_decimal m ++ more ≡ signed_decimal n ++ rest → (m ≡ n) × (more ≡ rest)
+    → signed_decimal m ++ more ≡ signed_decimal n ++ rest → (m ≡ n) × (more ≡ rest)
 one_number m n more rest fm fn sm sn e =
     let same = sym (front-stops (signed_decimal m) more (number_is_numeral m fm) sm) ∙ ap (take_while is_numeral_byte) e ∙ front-stops (signed_decimal n) rest (number_is_numeral n fn) sn in
     (signed_decimal_injective m n (mag_fits m fm) (mag_fits n fn) same, append_cancel_left (signed_decimal n) more rest (ap (λ (bs : List ℕ). bs ++ more) (sym same) ∙ e))
@@ -73,7 +73,7 @@ word_is bytes literal rest word n more e w p =
 
 -- what was cut off at the longest front is a part
 pub part_is : (bytes literal rest word more : List ℕ) (k : ℕ) (n : ℤ) → bytes ≡ literal ++ rest → take k rest ≡ take_while is_numeral_byte rest → k ≤ length rest
-  → word ≡ take k rest → more ≡ drop k rest → word ≡ signed_decimal n → FitsSigned w64 n → IsPart bytes literal n more
+    → word ≡ take k rest → more ≡ drop k rest → word ≡ signed_decimal n → FitsSigned w64 n → IsPart bytes literal n more
 part_is bytes literal rest word more k n e front le w m is fits = record {
   fits = fits;
   stops = subst IsStop (sym m) (stops_behind rest k front le);

@@ -23,9 +23,9 @@ number_is_short n fits = let less = mag_fits n fits in length_signed_le 19 n (om
 
 ending_is_short : (ending : List ℕ) → IsEnding ending → length ending ≤ 5
 ending_is_short ending e = elim e as (λ _. length ending ≤ 5) [
-    inl h ↦ subst (λ (t : List ℕ). length t ≤ 5) (sym h) (lit≤ tt)
+  | inl h ↦ subst (λ (t : List ℕ). length t ≤ 5) (sym h) (lit≤ tt)
   | inr h ↦ subst (λ (t : List ℕ). length t ≤ 5) (sym h) (lit≤ tt)
-  ]
+]
 
 lengths : (a b c d l h n e : List ℕ) (x : ℕ) → length (a ++ (x ∷ (b ++ (l ++ (c ++ (h ++ (d ++ (n ++ e)))))))) ≡ length a + (1 + (length b + (length l + (length c + (length h + (length d + (length n + length e)))))))
 lengths a b c d l h n e x = grind (arith, length-append)
@@ -38,31 +38,31 @@ form_is_short bytes form is =
     let bound = number_is_short form.bound is.bound in
     let ending = ending_is_short is.spells.0 is.spells.1 in
     let whole : length bytes ≡ 6 + (1 + (21 + (length (signed_decimal form.low) + (1 + (length (signed_decimal form.high) + (16 + (length (signed_decimal form.bound) + length is.spells.0))))))) =
-      ap length is.spells.2 ∙ lengths (codes "(prop ") (codes " (forall ((x (choose ") (codes " ") (codes "))) (check (< x ") (signed_decimal form.low) (signed_decimal form.high) (signed_decimal form.bound) is.spells.0 form.name in
+    ap length is.spells.2 ∙ lengths (codes "(prop ") (codes " (forall ((x (choose ") (codes " ") (codes "))) (check (< x ") (signed_decimal form.low) (signed_decimal form.high) (signed_decimal form.bound) is.spells.0 form.name in
     omega (arith, low, high, bound, ending, whole)
 
 -- the front of a file that was loaded is the whole file, or no form
 pub front_or_long : (bytes : List ℕ) → (take 1048577 bytes ≡ bytes) ⊎ (1048577 ≤ length bytes)
 front_or_long bytes = elim (cases_lt (length bytes) 1048577) [
-    inl less ↦ inl (take_all 1048577 bytes (omega (arith, less)))
+  | inl less ↦ inl (take_all 1048577 bytes (omega (arith, less)))
   | inr more ↦ inr more
-  ]
+]
 
 pub front_says : (bytes : List ℕ) (s : Status) (text : List ℕ) → FileReplies (take 1048577 bytes) s text → FileReplies bytes s text
 front_says bytes s text said = elim (front_or_long bytes) as (λ _. FileReplies bytes s text) [
-    inl whole ↦ subst (λ (b : List ℕ). FileReplies b s text) whole said
+  | inl whole ↦ subst (λ (b : List ℕ). FileReplies b s text) whole said
   | inr long ↦ elim said as (λ _. FileReplies bytes s text) [
-      inl run ↦ let short = form_is_short (take 1048577 bytes) run.0 run.1 in absurd (omega (arith, short, length-take 1048577 bytes, long))
+    | inl run ↦ let short = form_is_short (take 1048577 bytes) run.0 run.1 in absurd (omega (arith, short, length-take 1048577 bytes, long))
     | inr refused ↦ inr (λ form is. let short = form_is_short bytes form is in absurd (omega (arith, short, long)), refused.1, refused.2)
-    ]
   ]
+]
 
 -- a reply that tells of a run is that to a form
 pub run_is_of_form : (bytes : List ℕ) (s : Status) (text : List ℕ) → IsRun s → FileReplies bytes s text → length bytes < 1048577
 run_is_of_form bytes s text run said = elim said as (λ _. length bytes < 1048577) [
-    inl form ↦ let short = form_is_short bytes form.0 form.1 in omega (arith, short)
+  | inl form ↦ let short = form_is_short bytes form.0 form.1 in omega (arith, short)
   | inr refused ↦ elim run as (λ _. length bytes < 1048577) [ inl e ↦ let both = sym e ∙ refused.1 in cc | inr e ↦ let both = sym e ∙ refused.1 in cc ]
-  ]
+]
 
 pub finish_is_run : (f : Finish) → IsRun (status_of f)
 finish_is_run finish.Passed = inl refl
@@ -72,15 +72,15 @@ finish_is_run (finish.Failed k size cause) = inr refl
 -- a file of the form is run
 pub form_is_run : (bytes : List ℕ) (form : Form) (s : Status) (text : List ℕ) → IsForm bytes form → FileReplies bytes s text → IsRun s
 form_is_run bytes form s text is said = elim said as (λ _. IsRun s) [
-    inl run ↦ subst IsRun (sym run.2) (finish_is_run (run_of run.0).finish)
+  | inl run ↦ subst IsRun (sym run.2) (finish_is_run (run_of run.0).finish)
   | inr refused ↦ absurd (refused.0 form is)
-  ]
+]
 
 pub file_is_reply : (bytes : List ℕ) (s : Status) (text : List ℕ) → FileReplies bytes s text → IsReply s
 file_is_reply bytes s text said = elim said as (λ _. IsReply s) [
-    inl run ↦ subst IsReply (sym run.2) (run_is_reply (run_of run.0).finish)
+  | inl run ↦ subst IsReply (sym run.2) (run_is_reply (run_of run.0).finish)
   | inr refused ↦ subst IsReply (sym refused.1) tt
-  ]
+]
   where
     run_is_reply : (f : Finish) → IsReply (status_of f)
     run_is_reply finish.Passed = tt

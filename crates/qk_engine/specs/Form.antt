@@ -16,7 +16,7 @@ IsEnding ending = (ending ≡ codes "))))") ⊎ (ending ≡ codes "))))" ++ 10 �
 -- the text of a form, with its ending
 abbrev pub spelled : Form → List ℕ → List ℕ
 spelled form ending = codes "(prop " ++ (form.name ∷ (codes " (forall ((x (choose " ++ (signed_decimal form.low
-  ++ (codes " " ++ (signed_decimal form.high ++ (codes "))) (check (< x " ++ (signed_decimal form.bound ++ ending)))))))
+    ++ (codes " " ++ (signed_decimal form.high ++ (codes "))) (check (< x " ++ (signed_decimal form.bound ++ ending)))))))
 
 -- these bytes are the text of that form: its name is one lower-case letter, and its numbers are 64-bit numbers in shortest decimal
 pub record IsForm (bytes : List ℕ) (form : Form) : Type 0 where

@@ -8,6 +8,8 @@ mod numeral;
 mod replying;
 mod report;
 mod sequential;
+#[cfg(test)]
+mod tests;
 mod text;
 mod top;
 mod words;

@@ -19,7 +19,11 @@ pub fn after<'a>(bytes: &'a [u8], literal: &[u8]) -> Option<&'a [u8]>
 }
 
 /// The number after a literal text, and what follows it.
-pub fn part<'a>(alloc: Global, bytes: &'a [u8], literal: &[u8]) -> Result<Option<(i64, &'a [u8])>, Memory>
+pub fn part<'a>(
+    alloc: Global,
+    bytes: &'a [u8],
+    literal: &[u8],
+) -> Result<Option<(i64, &'a [u8])>, Memory>
     ensures { IfOk result (λ found. MatchOption found ((n : ℤ) (more : List ℕ) → IsPart bytes.now literal.now n more → ⊥) (λ r. IsPart bytes.now literal.now r.0 r.1.now)) }
 {
     let Some(rest) = after(bytes, literal) else {

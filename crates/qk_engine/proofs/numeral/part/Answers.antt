@@ -15,5 +15,5 @@ pub returns-in-Some-2 : goal.returns-in-Some-2
 returns-in-Some-2 c =
     let some = rw c.in-Some-2.is at c.in_ok-number.ensures in
     subst (λ (n : ℤ). IsPart c.args.bytes.now c.args.literal.now n c.split_at.result.1.now) (sym (to_z-of_z w64 c.in-Some-2.n some.0))
-      (part_is c.args.bytes.now c.args.literal.now c.in-Some.rest.now c.split_at.result.0.now c.split_at.result.1.now c.numeral_len.result c.in-Some-2.n c.in-Some.ensures
-        c.numeral_len.ensures.value c.numeral_len.ensures.within c.split_at.ensures.front c.split_at.ensures.back some.1 some.0)
+    (part_is c.args.bytes.now c.args.literal.now c.in-Some.rest.now c.split_at.result.0.now c.split_at.result.1.now c.numeral_len.result c.in-Some-2.n c.in-Some.ensures
+    c.numeral_len.ensures.value c.numeral_len.ensures.within c.split_at.ensures.front c.split_at.ensures.back some.1 some.0)

@@ -6,8 +6,7 @@ use Rattle.qk_engine.proofs.top.run_into.Goals as goal
 
 pub returns-clause-replies : goal.returns-clause-replies
 returns-clause-replies g c =
-    let said = subst (λ (b : List ℕ). FileReplies b c.in_ok-file_reply.field-0.status c.in_ok-file_reply.field-0.text.items) c.as_slice.ensures c.in_ok-file_reply.ensures in
-    (
+    let said = subst (λ (b : List ℕ). FileReplies b c.in_ok-file_reply.field-0.status c.in_ok-file_reply.field-0.text.items) c.as_slice.ensures c.in_ok-file_reply.ensures in (
       file_is_reply _ _ _ said,
       λ bytes told. loaded_says (g.L.Library.holds c.args.library.now) c.in-Some.file.now _ bytes c.in_ok-bytes.bytes.items _ _ c.in-Some.ensures told (c.in_ok-bytes.ensures.told bytes) said,
     )
