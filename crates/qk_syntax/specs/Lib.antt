@@ -1,0 +1,9 @@
+pub mod Places
+pub mod PlainTrees
+pub mod Spelling
+pub mod TextFault
+pub mod Tokens
+pub mod Words
+pub mod Canonical
+pub mod Reader
+pub mod View
