@@ -1,2 +1,5 @@
+pub mod Attempts
 pub mod Forms
 pub mod Numerals
+pub mod Replies
+pub mod Texts

@@ -1,7 +1,16 @@
-//! The top call.
+//! The top call: from the words and a library to a report in a sink.
 #![tactic(auto)]
 
+mod attempting;
 mod form;
+mod made;
 mod numeral;
+mod replying;
+mod report;
+mod sequential;
+mod text;
+mod top;
+mod words;
 
-pub use form::{Form, parse};
+pub use made::Made;
+pub use top::{run, run_into};
