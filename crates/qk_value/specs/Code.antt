@@ -1,5 +1,5 @@
 -- Data and types as trees of numbers, by which what holds them can be told apart.
-use Rattle.std.specs.Prelude.{◌≡◌, refl}
+use Rattle.std.specs.Prelude.{◌≡◌, ℕ, refl}
 use Rattle.std.proofs.Common.{ap}
 use base.Stored.{Coded, Gv, gnil, gnum, gcons, coded_bool, coded_ℤ}
 use Rattle.qk_value.specs.Data.{Data, int, bool, list, pair, made, Datas, end, more}
@@ -16,7 +16,7 @@ second gnil = gnil
 second (gnum n) = gnil
 second (gcons a b) = b
 
-pub same_number : (m n : _) → gnum m ≡ gnum n → m ≡ n
+pub same_number : (m n : ℕ) → gnum m ≡ gnum n → m ≡ n
 same_number m n e = cc
 
 abbrev mutual

@@ -15,11 +15,11 @@ view_step (Value-F.List s) = list (datas_of s.items)
 view_step (Value-F.Pair a b) = pair a.value b.value
 view_step (Value-F.Made k m s) = made k m (datas_of s.items)
 
-abbrev pub view : Value → Data
-view = fold-Value Data view_step
+abbrev pub view_value : Value → Data
+view_value = fold-Value Data view_step
 
-abbrev pub views : List Value → Datas
-views vs = datas_of (map view vs)
+abbrev pub view_values : List Value → Datas
+view_values vs = datas_of (map view_value vs)
 
 -- one level, with each type inside already seen as its data
 abbrev pub type_step : Ty-F TypeData → TypeData

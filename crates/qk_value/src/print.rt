@@ -2,7 +2,7 @@
 ghost use Rattle.std.specs.Prelude.{◌≡◌, ◌++◌, ◌∷◌, [], IfOk, OnOk};
 ghost use Rattle.qk_value.specs.Kinds.{maker_name};
 ghost use Rattle.qk_value.specs.Printed.{printed, printed_made, listed, spaced};
-ghost use Rattle.qk_value.specs.View.{view, views};
+ghost use Rattle.qk_value.specs.View.{view_value, view_values};
 
 use crate::kinds::Kinds;
 use crate::value::Value;
@@ -13,7 +13,7 @@ impl Value {
     /// The text of the value: numbers in decimal, `true` and `false`, `[1, 2]`, `(1, 2)`, a maker without parts by its name, one with
     /// parts as `(Node v1 v2)`. A maker that is not in the table has no name.
     pub fn print(&self, alloc: Global, kinds: &Kinds) -> Result<Bytes, Memory>
-        ensures { IfOk result (λ text. text.items ≡ printed (maker_name kinds.now) (view self.now)) }
+        ensures { IfOk result (λ text. text.items ≡ printed (maker_name kinds.now) (view_value self.now)) }
     {
         let mut text = Bytes::make(alloc);
         put(alloc, self, kinds, &mut text)?;
@@ -23,7 +23,7 @@ impl Value {
 
 #[cycle(print)]
 fn put(alloc: Global, value: &Value, kinds: &Kinds, out: &mut Bytes) -> Result<(), Memory>
-    ensures { OnOk result (out.new.items ≡ out.old.items ++ printed (maker_name kinds.now) (view value.now)) }
+    ensures { OnOk result (out.new.items ≡ out.old.items ++ printed (maker_name kinds.now) (view_value value.now)) }
 {
     match value {
         Value::Int(n) => {
@@ -59,7 +59,7 @@ fn put_made(
     kinds: &Kinds,
     out: &mut Bytes,
 ) -> Result<(), Memory>
-    ensures { OnOk result (out.new.items ≡ out.old.items ++ printed_made name.now (spaced (maker_name kinds.now) (views parts.now))) }
+    ensures { OnOk result (out.new.items ≡ out.old.items ++ printed_made name.now (spaced (maker_name kinds.now) (view_values parts.now))) }
 {
     if parts.is_empty() {
         return out.append(name);
@@ -72,7 +72,7 @@ fn put_made(
 
 #[cycle(print)]
 fn put_listed(alloc: Global, values: &[Value], kinds: &Kinds, out: &mut Bytes) -> Result<(), Memory>
-    ensures { OnOk result (out.new.items ≡ out.old.items ++ listed (maker_name kinds.now) (views values.now)) }
+    ensures { OnOk result (out.new.items ≡ out.old.items ++ listed (maker_name kinds.now) (view_values values.now)) }
 {
     for (index, value) in values.iter().enumerate() {
         if index != 0 {
@@ -85,7 +85,7 @@ fn put_listed(alloc: Global, values: &[Value], kinds: &Kinds, out: &mut Bytes) -
 
 #[cycle(print)]
 fn put_spaced(alloc: Global, values: &[Value], kinds: &Kinds, out: &mut Bytes) -> Result<(), Memory>
-    ensures { OnOk result (out.new.items ≡ out.old.items ++ spaced (maker_name kinds.now) (views values.now)) }
+    ensures { OnOk result (out.new.items ≡ out.old.items ++ spaced (maker_name kinds.now) (view_values values.now)) }
 {
     for value in values {
         out.append(b" ")?;

@@ -2,7 +2,7 @@
 ghost use Rattle.std.specs.Prelude.{◌≡◌, map, Some};
 ghost use Rattle.qk_value.specs.Kinds.{maker_of};
 ghost use Rattle.qk_value.specs.Typing.{has_type as has_type_of, all_have_type as all_have_type_of, are_parts as are_parts_of, field_types};
-ghost use Rattle.qk_value.specs.View.{view, views, view_type};
+ghost use Rattle.qk_value.specs.View.{view_value, view_values, view_type};
 
 use crate::kinds::Kinds;
 use crate::ty::Ty;
@@ -13,7 +13,7 @@ impl Value {
     /// fields, each of its field's type.
     #[cycle(typing)]
     pub fn has_type(&self, kinds: &Kinds, ty: &Ty) -> bool
-        ensures { result ≡ has_type_of kinds.now (view_type ty.now) (view self.now) }
+        ensures { result ≡ has_type_of kinds.now (view_type ty.now) (view_value self.now) }
     {
         match (ty, self) {
             (Ty::Int, Value::Int(_)) => true,
@@ -31,7 +31,7 @@ impl Value {
 
 #[cycle(typing)]
 fn all_have_type(items: &[Value], kinds: &Kinds, ty: &Ty) -> bool
-    ensures { result ≡ all_have_type_of kinds.now (view_type ty.now) (views items.now) }
+    ensures { result ≡ all_have_type_of kinds.now (view_type ty.now) (view_values items.now) }
 {
     for item in items {
         if !item.has_type(kinds, ty) {
@@ -43,7 +43,7 @@ fn all_have_type(items: &[Value], kinds: &Kinds, ty: &Ty) -> bool
 
 #[cycle(typing)]
 fn are_made(parts: &[Value], kinds: &Kinds, kind: u32, maker: u32) -> bool
-    ensures { result ≡ are_parts_of kinds.now (field_types (maker_of kinds.now kind maker)) (views parts.now) }
+    ensures { result ≡ are_parts_of kinds.now (field_types (maker_of kinds.now kind maker)) (view_values parts.now) }
 {
     match kinds.maker(kind, maker) {
         None => false,
@@ -53,7 +53,7 @@ fn are_made(parts: &[Value], kinds: &Kinds, kind: u32, maker: u32) -> bool
 
 #[cycle(typing)]
 fn are_parts(parts: &[Value], kinds: &Kinds, types: &[Ty]) -> bool
-    ensures { result ≡ are_parts_of kinds.now (Some (map view_type types.now)) (views parts.now) }
+    ensures { result ≡ are_parts_of kinds.now (Some (map view_type types.now)) (view_values parts.now) }
 {
     if parts.len() != types.len() {
         return false;

@@ -2,7 +2,7 @@
 ghost use Rattle.std.specs.Prelude.{IfOk, ◌↔◌, IsTrue, ◌≡◌, ◌≤◌, ◌<◌, ◌+◌, ◌-◌, ◌^◌, [], ◌∷◌, ◌++◌, ℕ, suc, length, map, min};
 ghost use Rattle.qk_value.specs.Measures.{weight as weight_of, weights as weights_of, depth as depth_of, depths as depths_of};
 ghost use Rattle.qk_value.specs.Order.{compare as compare_of, compare_all as compare_all_of, rank as rank_of};
-ghost use Rattle.qk_value.specs.View.{view, views};
+ghost use Rattle.qk_value.specs.View.{view_value, view_values};
 
 use qk_base::{Memory, Seq};
 use std::alloc::Global;
@@ -27,7 +27,7 @@ impl Value {
     /// An equal value. It costs a step for each part.
     #[cycle(copy)]
     pub fn copy(&self, alloc: Global) -> Result<Value, Memory>
-        ensures { IfOk result (λ copy. view copy ≡ view self.now) }
+        ensures { IfOk result (λ copy. view_value copy ≡ view_value self.now) }
     {
         match self {
             Value::Int(n) => Ok(Value::Int(*n)),
@@ -49,7 +49,7 @@ impl Value {
     /// How deep parts nest: 1 for a value without parts, else 1 and the greatest depth of a part; at most 2^64 - 1.
     #[cycle(depth)]
     pub fn depth(&self) -> u64
-        ensures { result ≡ min (depth_of (view self.now)) u64.MAX }
+        ensures { result ≡ min (depth_of (view_value self.now)) u64.MAX }
     {
         match self {
             Value::Int(_) => 1,
@@ -64,7 +64,7 @@ impl Value {
     /// and then by parts. Values of two types come in the order of the enum's variants, and made values by their types' numbers.
     #[cycle(compare)]
     pub fn compare(&self, other: &Value) -> Ordering
-        ensures { result ≡ compare_of (view self.now) (view other.now) }
+        ensures { result ≡ compare_of (view_value self.now) (view_value other.now) }
     {
         match (self, other) {
             (Value::Int(m), Value::Int(n)) => m.cmp(n),
@@ -87,7 +87,7 @@ impl Value {
     }
 
     fn rank(&self) -> u8
-        ensures { result ≡ rank_of (view self.now) }
+        ensures { result ≡ rank_of (view_value self.now) }
     {
         match self {
             Value::Int(_) => 0,
@@ -101,7 +101,7 @@ impl Value {
     /// The number of parts, the value itself counted: 1, and the weights of its parts; 2^64 - 1 where that sum is greater.
     #[cycle(weight)]
     pub fn weight(&self) -> u64
-        ensures { result ≡ min (weight_of (view self.now)) u64.MAX }
+        ensures { result ≡ min (weight_of (view_value self.now)) u64.MAX }
     {
         match self {
             Value::Int(_) => 1,
@@ -115,7 +115,7 @@ impl Value {
 
 #[cycle(weight)]
 fn weight_all(items: &[Value]) -> u64
-    ensures { result ≡ min (weights_of (views items.now)) u64.MAX }
+    ensures { result ≡ min (weights_of (view_values items.now)) u64.MAX }
 {
     let mut sum = 0u64;
     for item in items {
@@ -126,7 +126,7 @@ fn weight_all(items: &[Value]) -> u64
 
 #[cycle(compare)]
 fn compare_all(xs: &[Value], ys: &[Value]) -> Ordering
-    ensures { result ≡ compare_all_of (views xs.now) (views ys.now) }
+    ensures { result ≡ compare_all_of (view_values xs.now) (view_values ys.now) }
 {
     let shared = xs.len().min(ys.len());
     for i in 0..shared {
@@ -141,7 +141,7 @@ fn compare_all(xs: &[Value], ys: &[Value]) -> Ordering
 /// Equal values, in the same order.
 #[cycle(copy)]
 pub fn copy_all(alloc: Global, items: &[Value]) -> Result<Seq<Value>, Memory>
-    ensures { IfOk result (λ copies. map view copies.items ≡ map view items.now) }
+    ensures { IfOk result (λ copies. map view_value copies.items ≡ map view_value items.now) }
 {
     let mut copies = Seq::make(alloc);
     for item in items {
@@ -152,7 +152,7 @@ pub fn copy_all(alloc: Global, items: &[Value]) -> Result<Seq<Value>, Memory>
 
 #[cycle(depth)]
 fn depth_all(items: &[Value]) -> u64
-    ensures { result ≡ min (depths_of (views items.now)) u64.MAX }
+    ensures { result ≡ min (depths_of (view_values items.now)) u64.MAX }
 {
     let mut most = 0u64;
     for item in items {
