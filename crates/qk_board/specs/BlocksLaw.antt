@@ -1,10 +1,10 @@
 -- The blocks are a layout.
-use Rattle.std.proofs.Common.{◌≡◌, ℕ, suc, ◌+◌, ◌-◌, ◌*◌, ◌/◌, ◌%◌, ◌<◌, ◌≤◌, min, length, get_or, subst, sym, ap, ◌∙◌, div-add-mod', mul-le-mul_right, suc-mul, arith}
+use Rattle.std.proofs.Common.{◌≡◌, ℕ, suc, ◌+◌, ◌-◌, ◌*◌, ◌/◌, ◌%◌, ◌<◌, ◌≤◌, min, length, get_or, subst, sym, ap, ◌∙◌, div-add-mod', mul-le-mul_right, arith}
 use Rattle.std.proofs.Math.Nat.{mod-lt}
 use mathlib.Core.Logic.{dite}
 use native.Mathlib.Decide.{dec_le}
 use Rattle.qk_board.specs.Layouts.{IsLayout, block_width, block_length, block_lengths}
-use Rattle.qk_board.specs.Tables.{table_at, table_inside, table_length, div_up, one_quotient}
+use Rattle.qk_board.specs.Tables.{table_at, table_inside, table_length, one_quotient}
 
 width_or_less : (w rest i : ℕ) → i < min w rest → (i < w) × (i < rest)
 width_or_less w rest i h = (omega arith, omega arith)
@@ -43,9 +43,13 @@ module _ (limit m : ℕ) (pos : 0 < m) where
 
   some_pair : (n : ℕ) → n < limit → (r : ℕ) × (i : ℕ) × (r < length (block_lengths limit m)) × (i < get_or (block_lengths limit m) r 0) × (r * w + i ≡ n)
   some_pair n h = let e = div-add-mod' n w in let l = mod-lt n (some_width n h) in let low = in_range n h in
-      let is : n / w * w + n % w < limit = omega arith in
-      (n / w, n % w, subst (λ k. n / w < k) (sym (table_length (block_length limit m) 0 m)) low,
-          subst (λ k. n % w < k) (sym (len (n / w) low)) (both_below w (limit - n / w * w) (n % w) l (left_of (n / w * w) limit (n % w) is)), e)
+      let is : n / w * w + n % w < limit = omega arith in (
+        n / w,
+        n % w,
+        subst (λ k. n / w < k) (sym (table_length (block_length limit m) 0 m)) low,
+        subst (λ k. n % w < k) (sym (len (n / w) low)) (both_below w (limit - n / w * w) (n % w) l (left_of (n / w * w) limit (n % w) is)),
+        e,
+      )
 
   one_pair : (r i q j : ℕ) → i < get_or (block_lengths limit m) r 0 → j < get_or (block_lengths limit m) q 0 → r * w + i ≡ q * w + j → (r ≡ q) × (i ≡ j)
   one_pair r i q j h k e = one_quotient r i q j w (parts r i h).0 (parts q j k).0 e

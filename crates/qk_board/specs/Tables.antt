@@ -1,5 +1,5 @@
 -- Tables of a function of numbers, and quotients.
-use Rattle.std.proofs.Common.{◌≡◌, ℕ, zero, suc, ◌+◌, ◌-◌, ◌*◌, ◌/◌, ◌%◌, ◌<◌, ◌≤◌, length, get_or, refl, ap, ◌∙◌, div-add-mod', mul-le-mul_right, suc-mul, arith}
+use Rattle.std.proofs.Common.{◌≡◌, ℕ, zero, suc, ◌+◌, ◌*◌, ◌/◌, ◌<◌, ◌≤◌, length, get_or, refl, ap, ◌∙◌, div-add-mod', mul-le-mul_right, suc-mul, arith}
 use Rattle.std.proofs.Math.Nat.{mod-lt}
 use mathlib.Core.Logic.{dite}
 use native.Mathlib.Decide.{dec_le}

@@ -1,6 +1,6 @@
-use Rattle.std.proofs.Common.{arith, rules, ◌≡◌, ◌*◌, ◌-◌, ◌<◌, ◌≤◌, min, sym}
+use Rattle.std.proofs.Common.{arith, ◌*◌, ◌<◌, ◌≤◌, sym}
 use Rattle.qk_board.specs.Layouts.{block_length}
-use Rattle.qk_board.specs.BlocksLaw.{block_at, block_none, min_left}
+use Rattle.qk_board.specs.BlocksLaw.{block_at, block_none}
 use Rattle.qk_board.specs.Tables.{table_past}
 use Rattle.qk_board.proofs.blocks.BlocksLayout.length.Goals as goal
 

@@ -1,5 +1,4 @@
-use Rattle.std.proofs.Common.{arith, ◌≡◌, ◌*◌, ◌+◌, ◌<◌, sym, subst}
-use Rattle.qk_board.specs.Layouts.{block_width}
+use Rattle.std.proofs.Common.{arith, ◌*◌, ◌+◌, ◌<◌, sym, subst}
 use Rattle.qk_board.specs.BlocksLaw.{block_below}
 use Rattle.qk_board.proofs.blocks.BlocksLayout.number.Goals as goal
 
