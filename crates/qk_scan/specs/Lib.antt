@@ -1,2 +1,4 @@
+pub mod Each
 pub mod Prefix
 pub mod Share
+pub mod Work

@@ -1,11 +1,15 @@
 //! The answers of numbered jobs up to the first hit, found by many workers.
 #![tactic(auto)]
 
+mod found;
 mod jobs;
 mod scanning;
 mod shares;
 #[cfg(test)]
 mod tests;
+mod working;
 
+pub use found::Found;
 pub use jobs::Jobs;
 pub use scanning::scan;
+pub use working::work;
