@@ -1,8 +1,15 @@
 -- Lists of which each item meets a fact.
-use Rattle.std.proofs.Common.{ℕ, zero, suc, List, [], ◌∷◌, ◌++◌, take, drop, Result, Ok, Err, OnErr}
+use mathlib.Core.Option.{some, some-injective, some-ne-none}
+use lib.ListN.{get_elem?}
+use Rattle.std.proofs.Common.{◌≡◌, sym, subst, OnOk, ℕ, zero, suc, List, [], ◌∷◌, ◌++◌, take, drop, Result, Ok, Err, OnErr}
 use Rattle.qk_scan.specs.Each.{Each}
 
 module _ {X : Type 0} (P : X → Type 0) where
+  pub each_at : (xs : List X) (i : ℕ) (x : X) → get_elem? xs i ≡ some x → Each P xs → P x
+  each_at [] i x e h = absurd (some-ne-none x (sym e))
+  each_at (y ∷ ys) zero x e h = subst P (some-injective y x e) h.0
+  each_at (y ∷ ys) (suc i) x e h = each_at ys i x e h.1
+
   pub each_take : (n : ℕ) (xs : List X) → Each P xs → Each P (take n xs)
   each_take zero xs h = tt
   each_take (suc n) [] h = tt
@@ -32,3 +39,7 @@ each_map P Q f (x ∷ xs) h = (f x h.0, each_map P Q f xs h.1)
 pub on_err : {T E : Type 0} (r : Result T E) (P : Type 0) → P → OnErr r P
 on_err (Ok t) P h = tt
 on_err (Err e) P h = h
+
+pub on_ok : {T E : Type 0} (r : Result T E) (P Q : Type 0) → (P → Q) → OnOk r P → OnOk r Q
+on_ok (Ok t) P Q f h = f h
+on_ok (Err e) P Q f h = tt

@@ -1,10 +1,11 @@
 //! The answers of numbered jobs up to the first hit, found by many workers.
 #![tactic(auto)]
 
+mod crew;
 mod found;
 mod jobs;
 mod scanning;
-mod shares;
+mod slots;
 #[cfg(test)]
 mod tests;
 mod working;
