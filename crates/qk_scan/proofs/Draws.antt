@@ -1,5 +1,5 @@
 -- One more draw of a worker.
-use Rattle.std.proofs.Common.{◌≡◌, ℕ, eqb, leb, zero, suc, ◌+◌, max, ◌<◌, ◌≤◌, ◌≢◌, Bool, true, false, cond, List, [], ◌∷◌, ◌++◌, length, length-append, append_assoc, append-nil, sym, refl, ap, ◌∙◌, subst, eq-eqb, ne_eqb, arith}
+use Rattle.std.proofs.Common.{◌≡◌, ℕ, eqb, leb, ◌+◌, max, ◌<◌, ◌≤◌, Bool, true, false, cond, List, [], ◌∷◌, ◌++◌, length, length-append, append_assoc, append-nil, sym, refl, ap, ◌∙◌, subst, eq-eqb, ne_eqb, arith}
 use Rattle.std.proofs.lemmas.Bool.{le-leb, lt-leb}
 use mathlib.Core.Logic.{dite}
 use native.Mathlib.Decide.{ℕ_discrete, dec_le}
@@ -8,7 +8,6 @@ use Rattle.qk_totals.proofs.Totals.{drawn_append, draw_same}
 use Rattle.qk_board.specs.declared.view.BoardView.{BoardView}
 use Rattle.qk_board.specs.Views.{with_draw, with_lowered, with_seen}
 use Rattle.qk_scan.specs.declared.found.Found.{Found}
-use Rattle.qk_scan.specs.Each.{Each}
 use Rattle.qk_scan.specs.Work.{answer_to, performed, hit_numbers, Worked, Pending, AreDrawn, DrawsMore, top_of}
 use Rattle.qk_scan.proofs.Eachs.{each_append, each_map}
 

@@ -1,5 +1,5 @@
 -- Writing an answer into its slot.
-use Rattle.std.proofs.Common.{◌≡◌, ℕ, zero, suc, ◌+◌, ◌<◌, ◌≤◌, ◌≢◌, List, [], ◌∷◌, length, get_or, set, sym, refl, ap, ◌∙◌, subst, get_or-set_same, get_or-set_other, arith, Option, Some, None, IfSome, IsSome, Bool, true, false, cond, eqb, ne_eqb, ◌++◌, ◌⊎◌, inl, inr, ⊎_elim}
+use Rattle.std.proofs.Common.{◌≡◌, ℕ, zero, suc, ◌+◌, ◌<◌, ◌≢◌, List, [], ◌∷◌, length, get_or, set, sym, refl, ap, ◌∙◌, subst, get_or-set_same, get_or-set_other, arith, Option, Some, None, IfSome, IsSome, Bool, true, false, cond, eqb, ne_eqb, ◌++◌, ◌⊎◌, inl, inr, ⊎_elim}
 use mathlib.Core.Logic.{dite}
 use native.Mathlib.Decide.{ℕ_discrete}
 use Rattle.qk_scan.specs.declared.found.Found.{Found}
@@ -43,7 +43,7 @@ module _ {A : Type 0} where
       → (IsFilled old n) ⊎ (0 < answered n all) → (IsFilled new n) ⊎ (0 < answered n rest)
   still_to_come n k old new all rest f e is stays here h = dite (ℕ_discrete n k) (λ s. inl (here s))
       (λ ne. ⊎_elim (λ (a : IsFilled old n). inl (stays a)) (λ (a : 0 < answered n all). let t = ap (answered n) e ∙ answered_snoc n rest f in
-        let z : ◌≡◌ {A = ℕ} (cond (eqb f.number n) 1 0) 0 = ap (λ b. cond b 1 0) (ne_eqb f.number n (λ q. ne (sym q ∙ is))) in inr (omega arith)) h)
+      let z : ◌≡◌ {A = ℕ} (cond (eqb f.number n) 1 0) 0 = ap (λ b. cond b 1 0) (ne_eqb f.number n (λ q. ne (sym q ∙ is))) in inr (omega arith)) h)
 
 -- slots without an answer
 pub right_snoc : {A : Type 0} (answer : ℕ → A) (slots : List (Option A)) → AreRight answer slots → AreRight answer (slots ++ None ∷ [])

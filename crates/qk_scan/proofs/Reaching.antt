@@ -1,5 +1,5 @@
 -- Every number up to the closed bound was performed, and the bound is the first hit.
-use Rattle.std.proofs.Common.{◌≡◌, ℕ, eqb, leb, zero, suc, ◌+◌, ◌-◌, min, ◌<◌, ◌≤◌, ◌≢◌, ◌⊎◌, Bool, true, false, cond, List, [], ◌∷◌, ◌++◌, length, get_or, sym, refl, ap, ◌∙◌, subst, inl, inr, ⊎_elim, eq-eqb, ne_eqb, append_assoc, arith}
+use Rattle.std.proofs.Common.{◌≡◌, ℕ, eqb, leb, suc, ◌+◌, ◌-◌, min, ◌<◌, ◌≤◌, ◌⊎◌, Bool, true, false, cond, List, [], ◌∷◌, ◌++◌, length, get_or, sym, refl, ap, ◌∙◌, subst, inl, inr, ⊎_elim, eq-eqb, ne_eqb, append_assoc, arith}
 use Rattle.std.proofs.lemmas.Bool.{le-leb, lt-leb}
 use mathlib.Core.Logic.{dite}
 use mathlib.Core.Option.{some}

@@ -44,7 +44,11 @@ fn put_one<J: Jobs>(jobs: &J, slots: &mut Vec<Option<J::Answer>>, number: u32, a
 }
 
 /// Puts each answer into the slot of its number.
-pub fn put_all<J: Jobs>(jobs: &J, mut found: Seq<Found<J::Answer>>, slots: &mut Vec<Option<J::Answer>>)
+pub fn put_all<J: Jobs>(
+    jobs: &J,
+    mut found: Seq<Found<J::Answer>>,
+    slots: &mut Vec<Option<J::Answer>>,
+)
     requires right { AreRight (J.answer_at jobs.now) slots.old.items }
     requires truth { Each (λ f. f.answer ≡ J.answer_at jobs.now f.number) found.items }
     ensures right { AreRight (J.answer_at jobs.now) slots.new.items }

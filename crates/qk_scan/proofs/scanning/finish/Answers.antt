@@ -1,4 +1,4 @@
-use Rattle.std.proofs.Common.{ ◌≡◌, ℕ, ◌<◌, ◌≤◌, ◌⊎◌, true, length, sym, subst}
+use Rattle.std.proofs.Common.{◌≡◌, ◌<◌, ◌⊎◌, true, sym, subst}
 use Rattle.qk_board.specs.declared.seat.BoardSeat.{BoardSeat}
 use Rattle.qk_board.specs.Seats.{view_of}
 use Rattle.qk_board.specs.Layouts.{IsLayout}
@@ -37,4 +37,4 @@ collect-requires-clause-bound g c κs within =
     let all : Each (λ s. Done lengths number (j.answer_at js) (j.hits js) (view_of s)) ss = each_map P (λ s. Done lengths number (j.answer_at js) (j.hits js) (view_of s)) (λ s h. h.1) ss c.requires.seats in
     let bound = c.close-closed.result.bound in
     subst (λ k. (bound ≡ k) ⊎ (j.hits js (j.answer_at js bound) ≡ true)) c.requires.count
-        (at_bound number (j.answer_at js) (j.hits js) view_of limit lengths w.0 law ss c.requires.all.0 all bound told.bound (λ m h. (told.seen m h).0) w.1 w.2)
+    (at_bound number (j.answer_at js) (j.hits js) view_of limit lengths w.0 law ss c.requires.all.0 all bound told.bound (λ m h. (told.seen m h).0) w.1 w.2)

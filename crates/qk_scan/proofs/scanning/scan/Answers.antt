@@ -1,4 +1,4 @@
-use Rattle.std.proofs.Common.{rules, arith, ◌≡◌, ◌<◌, ◌≤◌, length, ap, ◌∙◌, sym}
+use Rattle.std.proofs.Common.{arith, ◌≡◌, length, ap, ◌∙◌, sym}
 use Rattle.qk_board.specs.Layouts.{stride_length, stride_lengths}
 use Rattle.qk_board.specs.Tables.{table_length}
 use Rattle.qk_scan.proofs.scanning.scan.Goals as goal

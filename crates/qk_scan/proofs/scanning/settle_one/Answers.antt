@@ -1,4 +1,4 @@
-use Rattle.std.proofs.Common.{rules, arith, ◌≡◌, ◌+◌, ◌++◌, ◌∷◌, [], length, length-append, sym, subst, ap, ◌∙◌}
+use Rattle.std.proofs.Common.{◌≡◌, ◌+◌, ◌++◌, ◌∷◌, [], length, length-append, sym, subst, ap, ◌∙◌}
 use Rattle.qk_board.specs.declared.seat.BoardSeat.{BoardSeat}
 use Rattle.qk_scan.specs.declared.found.Found.{Found}
 use Rattle.qk_scan.specs.Each.{Each}
@@ -25,5 +25,5 @@ returns-clause-seats g c =
     let mine : Q w.seat = settled_now id limit lengths number (j.answer_at js) (j.hits js) new w.seat w.found.items c.requires.done.0 c.requires.done.1 c.requires.done.2 c.put_all.ensures.filled in
     let others : Each Q before = each_map P Q (settled_stays id limit lengths number (j.answer_at js) (j.hits js) old new c.put_all.ensures.len c.put_all.ensures.stays) before c.requires.seats in
     on_ok c.add.result (after ≡ before ++ w.seat ∷ []) ((length after ≡ length before + 1) × Each Q after)
-      (λ pushed. (ap length pushed ∙ length-append before (w.seat ∷ []), subst (Each Q) (sym pushed) (each_append Q before (w.seat ∷ []) others (mine, tt))))
-      c.add.ensures.ok
+    (λ pushed. (ap length pushed ∙ length-append before (w.seat ∷ []), subst (Each Q) (sym pushed) (each_append Q before (w.seat ∷ []) others (mine, tt))))
+    c.add.ensures.ok

@@ -1,4 +1,4 @@
-use Rattle.std.proofs.Common.{rules, arith, ◌≡◌, ℕ, ◌+◌, ◌<◌, ◌≤◌, ◌≢◌, true, false, List, [], ◌∷◌, ◌++◌, length, get_or, set, sym, subst, ap, ◌∙◌, ⊎_elim, Option, Some, None, IfSome, length-set}
+use Rattle.std.proofs.Common.{rules, arith, ◌≡◌, ◌<◌, true, false, [], ◌∷◌, ◌++◌, length, get_or, sym, subst, ap, ◌∙◌, ⊎_elim, Some, None, IfSome, length-set}
 use Rattle.std.proofs.lemmas.List.{get_or_read}
 use Rattle.qk_scan.proofs.Prefixes.{ends, grows}
 use Rattle.qk_scan.proofs.Filling.{right_none, filled_past}

@@ -1,4 +1,4 @@
-use Rattle.std.proofs.Common.{◌≡◌, ℕ, ◌+◌, ◌-◌, ◌<◌, ◌≤◌, ◌++◌, length}
+use Rattle.std.proofs.Common.{◌≡◌, ℕ, ◌-◌, ◌<◌, ◌≤◌, ◌++◌, length}
 use Rattle.qk_scan.specs.Prefix.{prefix_to_hit, answers_from}
 use Rattle.qk_scan.specs.Slots.{AreRight, IsFilled}
 use Rattle.qk_scan.proofs.slots.collect.Given as goal

@@ -1,4 +1,4 @@
-use Rattle.std.proofs.Common.{rules, arith, ◌≡◌, ℕ, ◌<◌, List, [], ◌∷◌, ◌++◌, length, subst, sym, refl, ◌∙◌}
+use Rattle.std.proofs.Common.{◌≡◌, ◌<◌, [], ◌∷◌, ◌++◌, length, subst, sym, refl, ◌∙◌}
 use Rattle.qk_scan.specs.declared.found.Found.{Found}
 use Rattle.qk_scan.specs.Each.{Each}
 use Rattle.qk_scan.specs.Slots.{IsFilled}

@@ -1,4 +1,4 @@
-use Rattle.std.proofs.Common.{rules, arith, ◌<◌, length}
+use Rattle.std.proofs.Common.{rules, ◌<◌, length}
 use Rattle.qk_scan.proofs.Filling.{right_set, filled_here, filled_stays}
 use Rattle.qk_scan.proofs.slots.put_one.Goals as goal
 

@@ -1,9 +1,9 @@
-use Rattle.std.proofs.Common.{rules, arith, ◌≡◌, ℕ, ◌+◌, ◌<◌, ◌≤◌, true, false, List, [], ◌∷◌, ◌++◌, sym, subst, ap, ◌∙◌}
+use Rattle.std.proofs.Common.{rules, ◌≡◌, true, false, [], ◌∷◌, ◌++◌, sym, subst, ap, ◌∙◌}
 use Rattle.qk_board.specs.declared.view.BoardView.{BoardView}
 use Rattle.qk_board.specs.Views.{with_seen, with_lowered}
 use Rattle.qk_board.specs.Seats.{view_of}
 use Rattle.qk_scan.specs.declared.found.Found.{Found}
-use Rattle.qk_scan.specs.Work.{Worked, Pending, answer_to}
+use Rattle.qk_scan.specs.Work.{Worked, answer_to}
 use Rattle.qk_scan.proofs.Draws.{skipped, missed, hit}
 use Rattle.qk_scan.proofs.working.answer_one.Goals as goal
 

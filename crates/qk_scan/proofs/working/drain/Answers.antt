@@ -1,6 +1,6 @@
 use Rattle.std.proofs.Common.{rules}
 use Rattle.qk_board.specs.Seats.{view_of}
-use Rattle.qk_scan.proofs.Draws.{draws_both, draws_none}
+use Rattle.qk_scan.proofs.Draws.{draws_both}
 use Rattle.qk_scan.proofs.working.drain.Goals as goal
 
 pub loop-dry-preserved : goal.loop-dry-preserved

@@ -1,4 +1,4 @@
-use Rattle.std.proofs.Common.{◌≡◌, ℕ, ◌+◌, ◌-◌, true, false, [], ◌∷◌, ◌++◌, cond}
+use Rattle.std.proofs.Common.{◌≡◌, ◌+◌, ◌-◌, true, false, [], ◌∷◌, ◌++◌, cond}
 use Rattle.qk_board.specs.Views.{length_at}
 use Rattle.qk_board.specs.Seats.{view_of, IsSeatOf}
 use Rattle.qk_scan.specs.Work.{Worked, DrawsMore, top_of}

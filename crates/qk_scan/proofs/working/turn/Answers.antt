@@ -1,4 +1,4 @@
-use Rattle.std.proofs.Common.{rules, arith, ◌≡◌, ℕ, ◌+◌, ◌<◌, ◌≤◌, List, [], ◌∷◌, ◌++◌, sym, subst, ap, ◌∙◌}
+use Rattle.std.proofs.Common.{rules, arith, ◌≡◌, ◌+◌, [], ◌∷◌, ◌++◌, sym, subst, ap, ◌∙◌}
 use Rattle.qk_board.specs.Seats.{view_of}
 use Rattle.qk_scan.specs.Work.{top_of, AreDrawn}
 use Rattle.qk_scan.proofs.Draws.{top_grows, draws_one, draws_none, claimed_drawn}
@@ -30,5 +30,5 @@ returns-in_err-answer_one-in-Number-clause-failed g c =
     let drawn = claimed_drawn number (j.answer_at js) (j.hits js) r t.0 (view_of c.args.seat.now) (view_of c.claim.new.seat) c.args.found.now.items c.requires.worked t.3 in
     let same : c.answer_one.new.found.items ≡ c.args.found.now.items = search rules in
     on_err c.from_residual.result (AreDrawn number (j.answer_at js) (view_of c.answer_one.new.seat).draws c.answer_one.new.found.items)
-        (subst (AreDrawn number (j.answer_at js) (view_of c.answer_one.new.seat).draws) (sym same)
-        (subst (λ l. AreDrawn number (j.answer_at js) l c.args.found.now.items) (sym c.answer_one.ensures.draws.0) drawn))
+    (subst (AreDrawn number (j.answer_at js) (view_of c.answer_one.new.seat).draws) (sym same)
+    (subst (λ l. AreDrawn number (j.answer_at js) l c.args.found.now.items) (sym c.answer_one.ensures.draws.0) drawn))

@@ -1,4 +1,4 @@
-use Rattle.std.proofs.Common.{rules, arith, ◌≡◌, ℕ, ◌+◌, ◌<◌, ◌≤◌, length, sym, subst, ap, ◌∙◌}
+use Rattle.std.proofs.Common.{rules, arith, ◌≡◌, ◌<◌, length, sym, subst, ap, ◌∙◌}
 use Rattle.qk_board.specs.Seats.{view_of}
 use Rattle.qk_scan.specs.Work.{place}
 use Rattle.qk_scan.proofs.Order.{place_next, place_round, one_more, drained}

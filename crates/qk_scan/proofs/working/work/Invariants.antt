@@ -1,4 +1,4 @@
-use Rattle.std.proofs.Common.{◌≡◌, ℕ, ◌+◌, ◌-◌, ◌<◌, ◌≤◌, []}
+use Rattle.std.proofs.Common.{◌≡◌, ◌-◌, ◌<◌, ◌≤◌}
 use Rattle.qk_board.specs.Seats.{view_of, IsSeatOf}
 use Rattle.qk_scan.specs.Each.{Each}
 use Rattle.qk_scan.specs.Work.{Worked, place, DryUpTo, InCyclicOrder}
