@@ -2,6 +2,7 @@
 #![tactic(auto)]
 
 mod cursor;
+mod laws;
 mod lexis;
 mod open_lists;
 mod printing;
@@ -9,6 +10,7 @@ mod reading;
 mod tree;
 mod word;
 
+pub use laws::trees_or_fault;
 pub use printing::print;
 pub use reading::read;
 pub use tree::{Node, Tree};
