@@ -93,16 +93,16 @@ mutual
   tree_reads (name p w) n ts rest items outer e r (is, k) = subst_reads ts (word p w ∷ []) rest items (name p w ∷ []) outer is (subst_tree (word p w ∷ []) rest items (word_tree p w) (name p w) outer (name_tree p w k.kind) (word_reads p w rest items outer k.good (not_full items outer r)))
   tree_reads (list p us) n ts rest items outer e r (inner, q, is, h, k) =
       subst_reads ts (opening p ∷ inner ++ closing q ∷ []) rest items (list p us ∷ []) outer is
-        (list_reads n p q inner rest us items outer e h (not_full items outer r)
-          (trees_read us (n - 1) inner (closing q ∷ rest) [] (record { place = p; items = items } ∷ outer) (omega arith) (room_inside (record { place = p; items = items }) outer (0 + count us)) k))
+      (list_reads n p q inner rest us items outer e h (not_full items outer r)
+      (trees_read us (n - 1) inner (closing q ∷ rest) [] (record { place = p; items = items } ∷ outer) (omega arith) (room_inside (record { place = p; items = items }) outer (0 + count us)) k))
 
   trees_read : (us : PlainTrees) (n : ℕ) (ts rest : List Token) (items : List PlainTree) (outer : List Level) → length outer + n ≡ 200 → Room outer (length items + count us) → SpellsTrees n ts us → Reads ts rest items (list_of us) outer
   trees_read end n ts rest items outer e r is = subst_reads ts [] rest items [] outer is (none_read rest items outer)
   trees_read (more u us) n ts rest items outer e r (first, after, is, k, ks) =
       subst_reads ts (first ++ after) rest items (u ∷ list_of us) outer is
-        (both_read first after rest items u (list_of us) outer
-          (tree_reads u n first (after ++ rest) items outer e (room_less outer (length items + 1) (length items + (count us + 1)) (omega arith) r) k)
-          (trees_read us n after rest (items ++ u ∷ []) outer e (room_less outer (length (items ++ u ∷ []) + count us) (length items + (count us + 1)) (omega (arith, length_push items u)) r) ks))
+      (both_read first after rest items u (list_of us) outer
+      (tree_reads u n first (after ++ rest) items outer e (room_less outer (length items + 1) (length items + (count us + 1)) (omega arith) r) k)
+      (trees_read us n after rest (items ++ u ∷ []) outer e (room_less outer (length (items ++ u ∷ []) + count us) (length items + (count us + 1)) (omega (arith, length_push items u)) r) ks))
 
 top_room : (n : ℕ) → n ≤ 1000 → Room [] n
 unfolding Room

@@ -136,8 +136,8 @@ faults_from : (ts before : List Token) (p : Place) → Ordered p ts → AllFrom 
 faults_from [] before p o = tt
 faults_from (t ∷ ts) before p o =
     all_append p (faults_at before t) (faults_after (before ++ t ∷ []) ts)
-      (all_weaker p (at t) (faults_at before t) o.0 (at_token before t))
-      (all_weaker p (past (at t)) (faults_after (before ++ t ∷ []) ts) (until_until p (at t) (past (at t)) o.0 (until_past (at t))) (faults_from ts (before ++ t ∷ []) (past (at t)) o.1))
+    (all_weaker p (at t) (faults_at before t) o.0 (at_token before t))
+    (all_weaker p (past (at t)) (faults_after (before ++ t ∷ []) ts) (until_until p (at t) (past (at t)) o.0 (until_past (at t))) (faults_from ts (before ++ t ∷ []) (past (at t)) o.1))
 
 -- the innermost open list that no later `)` ends, where so many are nested in them
 unended : ℕ → List Level → List Token → Option Place
@@ -241,14 +241,14 @@ fault_left (opening q ∷ ts) before items outer p h o =
     ∙ ap (λ f. option_or (least ((where_holds (is_deep (record { items = items; outer = outer })) (fault 8 q) ++ where_holds f (fault 9 q)) ++ faults_after (before ++ opening q ∷ []) ts)) (option_map (fault 4) (open_from outer (opening q ∷ ts)))) (full_test before items outer h)
     ∙ ap (λ e. option_or (least ((where_holds (is_deep (record { items = items; outer = outer })) (fault 8 q) ++ where_holds (is_full (record { items = items; outer = outer })) (fault 9 q)) ++ faults_after (before ++ opening q ∷ []) ts)) (option_map (fault 4) e)) (open_opening q items outer ts)
     ∙ opening_cases (is_deep (record { items = items; outer = outer })) (is_full (record { items = items; outer = outer })) q (faults_after (before ++ opening q ∷ []) ts) _ (record { items = []; outer = record { place = q; items = items } ∷ outer }) (reading ts)
-        (faults_from ts (before ++ opening q ∷ []) (past q) o.1)
-        (fault_left ts (before ++ opening q ∷ []) [] (record { place = q; items = items } ∷ outer) (past q) (tracks_opening before q items outer h) o.1)
+    (faults_from ts (before ++ opening q ∷ []) (past q) o.1)
+    (fault_left ts (before ++ opening q ∷ []) [] (record { place = q; items = items } ∷ outer) (past q) (tracks_opening before q items outer h) o.1)
 fault_left (word q w ∷ ts) before items outer p h o =
     ap (λ f. option_or (least ((map (λ code. fault code q) (option_to_list (word_fault w)) ++ where_holds f (fault 9 q)) ++ faults_after (before ++ word q w ∷ []) ts)) (option_map (fault 4) (open_from outer (word q w ∷ ts)))) (full_test before items outer h)
     ∙ ap (λ e. option_or (least ((map (λ code. fault code q) (option_to_list (word_fault w)) ++ where_holds (is_full (record { items = items; outer = outer })) (fault 9 q)) ++ faults_after (before ++ word q w ∷ []) ts)) (option_map (fault 4) e)) (open_word q w outer ts)
     ∙ word_cases (word_fault w) (is_full (record { items = items; outer = outer })) q w (faults_after (before ++ word q w ∷ []) ts) _ (record { items = items; outer = outer }) (reading ts) (code_small w) refl
-        (faults_from ts (before ++ word q w ∷ []) (past q) o.1)
-        (fault_left ts (before ++ word q w ∷ []) (items ++ word_tree q w ∷ []) outer (past q) (tracks_word before q w items (word_tree q w) outer h) o.1)
+    (faults_from ts (before ++ word q w ∷ []) (past q) o.1)
+    (fault_left ts (before ++ word q w ∷ []) (items ++ word_tree q w ∷ []) outer (past q) (tracks_word before q w items (word_tree q w) outer h) o.1)
 
 or_none_place : (o : Option Place) → option_or o None ≡ o
 or_none_place None = refl

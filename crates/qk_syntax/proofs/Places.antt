@@ -66,9 +66,10 @@ put_first : (p q : Place) (first rest : List Token) → OneAt p first → Until 
 unfolding OneAt
 put_first p q first rest (inl e) u o = subst (λ (ts : List Token). Ordered p (ts ++ rest)) (sym e) (ordered_from rest p q (until_until p (past p) q (until_past p) u) o)
 put_first p q first rest (inr h) u o =
-    subst (λ (ts : List Token). Ordered p (ts ++ rest)) (sym h.2)
-      (subst (λ (r : Place). Until p r) (sym h.1) (until_same p),
-       ordered_from rest (past (at h.0)) q (subst (λ (r : Place). Until (past r) q) (sym h.1) u) o)
+    subst (λ (ts : List Token). Ordered p (ts ++ rest)) (sym h.2) (
+      subst (λ (r : Place). Until p r) (sym h.1) (until_same p),
+      ordered_from rest (past (at h.0)) q (subst (λ (r : Place). Until (past r) q) (sym h.1) u) o,
+    )
 
 pub scan_ordered : (bytes : List ℕ) (m : Mode) (p : Place) → Ordered p (scan bytes m p)
 scan_ordered [] m p = tt

@@ -53,19 +53,25 @@ ends_others (more t ts) rest h = refl
 one_and_others : (n : ℕ) (a b rest : List ℕ) (p : Place) (t : PlainTree) (ts : PlainTrees) → Again n a (b ++ rest) p t → ((q : Place) → AgainAll n b rest q ts) → AgainAll n (a ++ b) rest p (more t ts)
 unfolding Again AgainAll
 one_and_others n a b rest p t ts (toks, u, q, e, s, k) others =
-    let o = others q in
-    (toks ++ o.0, more u o.1, o.2,
-     ap (λ x. scan x free p) (append_assoc a b rest) ∙ e ∙ ap (λ x. toks ++ x) o.3 ∙ sym (append_assoc toks o.0 (scan rest free o.2)),
-     (toks, o.0, refl, s, o.4),
-     ap (λ x. bare_more x (bares o.1)) k ∙ ap (bare_more (bare t)) o.5)
+    let o = others q in (
+      toks ++ o.0,
+      more u o.1,
+      o.2,
+      ap (λ x. scan x free p) (append_assoc a b rest) ∙ e ∙ ap (λ x. toks ++ x) o.3 ∙ sym (append_assoc toks o.0 (scan rest free o.2)),
+      (toks, o.0, refl, s, o.4),
+      ap (λ x. bare_more x (bares o.1)) k ∙ ap (bare_more (bare t)) o.5,
+    )
 
 in_parentheses : (n : ℕ) (parts rest : List ℕ) (p at : Place) (ts : PlainTrees) → 0 < n → AgainAll (n - 1) parts (41 ∷ rest) (next_place p 40) ts → Again n (40 ∷ parts ++ 41 ∷ []) rest p (list at ts)
 unfolding Again AgainAll
-in_parentheses n parts rest p at ts h (toks, us, q, e, s, k) =
-    (opening p ∷ toks ++ closing q ∷ [], list p us, next_place q 41,
-     ap (λ x. opening p ∷ scan x free (next_place p 40)) (append_assoc parts (41 ∷ []) rest) ∙ ap (λ x. opening p ∷ x) e ∙ ap (λ x. opening p ∷ x) (sym (append_assoc toks (closing q ∷ []) (scan rest free (next_place q 41)))),
-     (toks, q, refl, h, s),
-     ap bare_list k)
+in_parentheses n parts rest p at ts h (toks, us, q, e, s, k) = (
+  opening p ∷ toks ++ closing q ∷ [],
+  list p us,
+  next_place q 41,
+  ap (λ x. opening p ∷ scan x free (next_place p 40)) (append_assoc parts (41 ∷ []) rest) ∙ ap (λ x. opening p ∷ x) e ∙ ap (λ x. opening p ∷ x) (sym (append_assoc toks (closing q ∷ []) (scan rest free (next_place q 41)))),
+  (toks, q, refl, h, s),
+  ap bare_list k,
+)
 
 after_space : (n : ℕ) (bytes rest : List ℕ) (p : Place) (ts : PlainTrees) → AgainAll n bytes rest (next_place p 32) ts → AgainAll n (32 ∷ bytes) rest p ts
 unfolding AgainAll

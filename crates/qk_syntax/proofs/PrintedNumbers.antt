@@ -76,7 +76,7 @@ spelled_number w ds m n a b k f =
     record {
       kind = kind;
       good = no_fault (is_number_word w) (list_all is_digit (without_minus w)) (fits_signed (begins_with_minus w) (magnitude (without_minus w))) _ kind (ap (list_all is_digit) b ∙ k.digits)
-        (ap (λ t. fits_signed t (magnitude (without_minus w))) a ∙ ap (fits_signed m) size ∙ f);
+          (ap (λ t. fits_signed t (magnitude (without_minus w))) a ∙ ap (fits_signed m) size ∙ f);
       value = ap (λ t. signed_number t (magnitude (without_minus w))) a ∙ ap (signed_number m) size;
     }
 
@@ -94,11 +94,13 @@ fits_below n h = grind (arith, nat_tests)
 pub printed_number : (z : ℤ) → neg_ℤ (pos (2 ^ 63)) ≤ℤ z → z <ℤ pos (2 ^ 63) → IsRun (signed_decimal z) × IsNumber (signed_decimal z) z
 printed_number (pos n) low high =
     let small : n < 2 ^ 63 = omega (arith, ints) in
-    let k = digits_of_number n (omega arith) in
-    (record { bytes = digits_are_words (decimal n) k.digits; some = k.some },
-     spelled_number (decimal n) (decimal n) false n (no_minus (decimal n) k.digits) (all_is_left (decimal n) k.digits) k (fits_above n small))
+    let k = digits_of_number n (omega arith) in (
+      record { bytes = digits_are_words (decimal n) k.digits; some = k.some },
+      spelled_number (decimal n) (decimal n) false n (no_minus (decimal n) k.digits) (all_is_left (decimal n) k.digits) k (fits_above n small),
+    )
 printed_number (negsuc n) low high =
     let small : n < 2 ^ 63 = omega (arith, ints) in
-    let k = digits_of_number (suc n) (omega arith) in
-    (record { bytes = digits_are_words (decimal (suc n)) k.digits; some = omega arith },
-     spelled_number (45 ∷ decimal (suc n)) (decimal (suc n)) true (suc n) refl refl k (fits_below n small))
+    let k = digits_of_number (suc n) (omega arith) in (
+      record { bytes = digits_are_words (decimal (suc n)) k.digits; some = omega arith },
+      spelled_number (45 ∷ decimal (suc n)) (decimal (suc n)) true (suc n) refl refl k (fits_below n small),
+    )

@@ -110,9 +110,9 @@ read_is_spelled (closing q ∷ ts) before items (l ∷ ls) trees h few e =
     again before ts (closing q) trees (read_is_spelled ts (before ++ closing q ∷ []) (l.items ++ list l.place (trees_of items) ∷ []) ls trees (stands_closing before q items l ls h) (few_closing items (list l.place (trees_of items)) l ls few) e)
 read_is_spelled (opening q ∷ ts) before items outer trees h few e =
     opening_by (is_deep (record { items = items; outer = outer })) (is_full (record { items = items; outer = outer })) q (record { items = []; outer = record { place = q; items = items } ∷ outer }) (reading ts) trees (Spelled (before ++ opening q ∷ ts) trees)
-      (λ d f k. again before ts (opening q) trees (read_is_spelled ts (before ++ opening q ∷ []) [] (record { place = q; items = items } ∷ outer) trees (stands_opening before q items outer (not_deep outer d) h) (few_opening items q outer f few) k))
-      e
+    (λ d f k. again before ts (opening q) trees (read_is_spelled ts (before ++ opening q ∷ []) [] (record { place = q; items = items } ∷ outer) trees (stands_opening before q items outer (not_deep outer d) h) (few_opening items q outer f few) k))
+    e
 read_is_spelled (word q w ∷ ts) before items outer trees h few e =
     word_by (word_fault w) q w (record { items = items; outer = outer }) (reading ts) trees (Spelled (before ++ word q w ∷ ts) trees)
-      (λ g f k. again before ts (word q w) trees (read_is_spelled ts (before ++ word q w ∷ []) (items ++ word_tree q w ∷ []) outer trees (stands_word before q w items outer g h) (few_word (is_full (record { items = items; outer = outer })) items (word_tree q w) outer refl f few) k))
-      e
+    (λ g f k. again before ts (word q w) trees (read_is_spelled ts (before ++ word q w ∷ []) (items ++ word_tree q w ∷ []) outer trees (stands_word before q w items outer g h) (few_word (is_full (record { items = items; outer = outer })) items (word_tree q w) outer refl f few) k))
+    e

@@ -32,11 +32,11 @@ begun_word m p bytes = []
 abbrev pub token_of : Mode → Place → ℕ → List ℕ → List Token
 token_of in_comment p b bytes = []
 token_of m p b bytes =
-  if is_blank b || b == 59 then []
-  else (if b == 40 then opening p ∷ []
-  else (if b == 41 then closing p ∷ []
-  else (if is_word_byte b then begun_word m p (b ∷ bytes)
-  else bad p ∷ [])))
+    if is_blank b || b == 59 then []
+    else (if b == 40 then opening p ∷ []
+    else (if b == 41 then closing p ∷ []
+    else (if is_word_byte b then begun_word m p (b ∷ bytes)
+    else bad p ∷ [])))
 
 abbrev pub scan : List ℕ → Mode → Place → List Token
 scan [] m p = []

@@ -22,11 +22,11 @@ ends_in_word bytes = fold (λ _ b. is_word_byte b) false bytes
 abbrev pub token_at : List ℕ → List ℕ → List Token
 token_at before [] = []
 token_at before (b ∷ bytes) =
-  if ends_in_comment (before ++ b ∷ []) || is_blank b then []
-  else (if b == 40 then opening (place_after before) ∷ []
-  else (if b == 41 then closing (place_after before) ∷ []
-  else (if is_word_byte b then (if ends_in_word before then [] else word (place_after before) (word_of (b ∷ bytes)) ∷ [])
-  else bad (place_after before) ∷ [])))
+    if ends_in_comment (before ++ b ∷ []) || is_blank b then []
+    else (if b == 40 then opening (place_after before) ∷ []
+    else (if b == 41 then closing (place_after before) ∷ []
+    else (if is_word_byte b then (if ends_in_word before then [] else word (place_after before) (word_of (b ∷ bytes)) ∷ [])
+    else bad (place_after before) ∷ [])))
 
 -- the tokens that begin in the bytes, after those before
 abbrev pub tokens_after : List ℕ → List ℕ → List Token

@@ -9,5 +9,4 @@ pub fn trees_or_fault()
     ensures faultless { (bytes : List ℕ) → text_fault bytes ≡ None → (trees : PlainTrees) × Spells bytes trees }
     ensures spelled { (bytes : List ℕ) (trees : PlainTrees) → Spells bytes trees → text_fault bytes ≡ None }
     ensures one { (bytes : List ℕ) (trees others : PlainTrees) → Spells bytes trees → Spells bytes others → trees ≡ others }
-{
-}
+{}

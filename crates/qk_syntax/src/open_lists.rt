@@ -19,9 +19,13 @@ use std::alloc::Global;
 use std::mem;
 
 const BAD_BYTE: u16 = 2;
+
 const STRAY_CLOSE: u16 = 3;
+
 const OPEN_AT_END: u16 = 4;
+
 const TOO_DEEP: u16 = 8;
+
 const TOO_MANY_ITEMS: u16 = 9;
 
 /// The most levels of lists in lists.

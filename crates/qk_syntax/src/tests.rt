@@ -1,6 +1,10 @@
 //! Texts with what is read of them, worked out by hand.
+ghost use Rattle.std.specs.Prelude.{◌≡◌, IfOk};
+ghost use Rattle.qk_syntax.specs.PlainTrees.{list, more, end};
+ghost use Rattle.qk_syntax.specs.View.{views};
+
 use crate::printing::put_lines;
-use crate::{Node, print, read};
+use crate::{Node, Tree, print, read};
 use qk_base::{Bytes, Fault, Memory, Place, Seq};
 use std::alloc::Global;
 
@@ -11,16 +15,26 @@ fn reply(alloc: Global, bytes: &[u8]) -> Result<Bytes, Memory> {
         Ok(trees) => put_lines(alloc, trees.as_slice(), &mut out)?,
         Err(Fault::Memory) => return Err(Memory),
         Err(Fault::Refused(r)) => {
-            let text = format!(in alloc; "refused {} at {}:{}", r.code, r.place.line, r.place.column)?;
+            let text = format!(in alloc;
+                "refused {} at {}:{}",
+                r.code, r.place.line, r.place.column
+            )?;
             out.append(text.as_bytes())?;
         }
     }
     Ok(out)
 }
 
-/// A piece as often as told, and then an end.
-fn repeated(alloc: Global, piece: &[u8], times: u32, end: &[u8]) -> Result<Bytes, Memory> {
+/// A front, a piece as often as told, and an end.
+fn repeated(
+    alloc: Global,
+    front: &[u8],
+    piece: &[u8],
+    times: u32,
+    end: &[u8],
+) -> Result<Bytes, Memory> {
     let mut out = Bytes::make(alloc);
+    out.append(front)?;
     for _ in 0..times {
         out.append(piece)?;
     }
@@ -74,7 +88,7 @@ fn short_texts(rt: HostRuntime) -> Result<(), Memory> {
 #[test]
 fn texts_at_the_limits(rt: HostRuntime) -> Result<(), Memory> {
     let alloc = rt.alloc();
-    let cases: [(&[u8], u32, &[u8], &[u8]); 15] = [
+    let cases: [(&[u8], u32, &[u8], &[u8]); 14] = [
         (b" ", 1048576, b"", b""),
         (b" ", 1048576, b" ", b"refused 1 at 1:1"),
         (b"\x80", 1048577, b"", b"refused 1 at 1:1"),
@@ -85,43 +99,36 @@ fn texts_at_the_limits(rt: HostRuntime) -> Result<(), Memory> {
         (b"0 ", 1000, b"(", b"refused 9 at 1:2001"),
         (b"0 ", 1000, b")", b"refused 3 at 1:2001"),
         (b"0 ", 1000, b"12a", b"refused 5 at 1:2001"),
-        (b"0\n", 1000, b";1", b""),
         (b"(0)", 1000, b"x", b"refused 9 at 1:3001"),
         (b"a", 64, b"(", b"refused 4 at 1:65"),
         (b"a", 65, b"", b"refused 7 at 1:1"),
         (b"0", 1048576, b"", b"0\n"),
     ];
     for (piece, times, end, want) in cases {
-        let text = repeated(alloc, piece, times, end)?;
-        let got = reply(alloc, text.as_slice())?;
-        if !want.is_empty() {
-            assert_eq!(rt; got.as_slice(), want);
-        }
+        let text = repeated(alloc, b"", piece, times, end)?;
+        assert_eq!(rt; reply(alloc, text.as_slice())?.as_slice(), want);
     }
+    let most = repeated(alloc, b"", b"0\n", 1000, b";1")?;
+    let lines = repeated(alloc, b"", b"0\n", 1000, b"")?;
+    assert_eq!(rt; reply(alloc, most.as_slice())?.as_slice(), lines.as_slice());
     Ok(())
 }
 
 #[test]
 fn deepest_lists(rt: HostRuntime) -> Result<(), Memory> {
     let alloc = rt.alloc();
-    let closes = repeated(alloc, b")", 200, b"")?;
-    let text = repeated(alloc, b"(", 200, closes.as_slice())?;
-    let want = repeated(alloc, b"(", 200, closes.as_slice())?;
-    let got = reply(alloc, text.as_slice())?;
-    assert_eq!(rt; got.len(), 401);
-    assert_eq!(rt; &got.as_slice()[..400], want.as_slice());
+    let ends = repeated(alloc, b"", b")", 200, b"\n")?;
+    let text = repeated(alloc, b"", b"(", 200, ends.as_slice())?;
+    assert_eq!(rt; reply(alloc, text.as_slice())?.as_slice(), text.as_slice());
     Ok(())
 }
 
 #[test]
 fn a_megabyte(rt: HostRuntime) -> Result<(), Memory> {
     let alloc = rt.alloc();
-    let text = repeated(alloc, b"a 7\n", 262144, b"")?;
-    let mut list = Bytes::make(alloc);
-    list.append(b"(")?;
-    list.append(&text.as_slice()[2..])?;
-    list.append(b")")?;
-    match read(alloc, list.as_slice()) {
+    let text = repeated(alloc, b"(7\n", b"a 7\n", 262143, b")")?;
+    assert_eq!(rt; text.len(), 1048576);
+    match read(alloc, text.as_slice()) {
         Ok(trees) => {
             let inside = match trees.get(0) {
                 Some(tree) => match &tree.node {
@@ -137,11 +144,23 @@ fn a_megabyte(rt: HostRuntime) -> Result<(), Memory> {
     Ok(())
 }
 
+/// The trees of the text `()`.
+fn empty_list(alloc: Global) -> Result<Seq<Tree>, Memory>
+    ensures { IfOk result (λ trees. views trees.items ≡ more (list (record { line = 1; column = 1 }) end) end) }
+{
+    let mut trees = Seq::make(alloc);
+    trees.add(Tree {
+        place: Place { line: 1, column: 1 },
+        node: Node::List(Seq::make(alloc)),
+    })?;
+    Ok(trees)
+}
+
 #[test]
-fn prints_no_trees(rt: HostRuntime) -> Result<(), Memory> {
+fn prints_a_list(rt: HostRuntime) -> Result<(), Memory> {
     let alloc = rt.alloc();
-    let trees = Seq::make(alloc);
-    assert_eq!(rt; print(alloc, &trees)?.len(), 0);
+    let trees = empty_list(alloc)?;
+    assert_eq!(rt; print(alloc, &trees)?.as_slice(), b"()\n".as_slice());
     Ok(())
 }
 

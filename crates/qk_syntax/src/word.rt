@@ -11,7 +11,9 @@ use qk_base::{Bytes, Fault, Memory, Place, Refusal};
 use std::alloc::Global;
 
 pub const BAD_NUMBER: u16 = 5;
+
 pub const WIDE_NUMBER: u16 = 6;
+
 pub const LONG_NAME: u16 = 7;
 
 /// The most bytes of a name.
@@ -61,7 +63,9 @@ fn magnitude(digits: &[u8]) -> u64
 {
     let mut sum = 0u64;
     for digit in digits {
-        sum = sum.saturating_mul(10).saturating_add(u64::from(*digit - 48));
+        sum = sum
+            .saturating_mul(10)
+            .saturating_add(u64::from(*digit - 48));
     }
     sum
 }
