@@ -1,14 +1,14 @@
 -- What the tokens spell is what the reader gives.
-use Rattle.std.proofs.Common.{◌≡◌, ℕ, ◌+◌, ◌-◌, ◌≤◌, ◌<◌, suc, Bool, true, false, cond, ◌&&◌, List, [], ◌∷◌, ◌++◌, length, eqb, ltb, leb, refl, sym, ap, ◌∙◌, arith, subst, Option, Some, None, Result, Ok, Err}
+use Rattle.std.proofs.Common.{◌≡◌, ℕ, ◌+◌, ◌-◌, ◌≤◌, ◌<◌, Bool, true, false, cond, List, [], ◌∷◌, ◌++◌, length, leb, refl, sym, ap, ◌∙◌, arith, subst, None, Result, Ok, Err}
 use Rattle.std.proofs.lemmas.Bool.Decides.{nat_tests}
 use Rattle.std.proofs.lemmas.List.{append_assoc, append-nil, length_push}
 use Rattle.qk_base.specs.declared.place.Place.{Place}
 use Rattle.qk_base.specs.declared.place.Refusal.{Refusal}
 use Rattle.qk_syntax.specs.PlainTrees.{PlainTree, number, name, list, PlainTrees, end, more, trees_of, count}
-use Rattle.qk_syntax.specs.Reader.{Level, Stack, is_top, is_full, is_deep, put, opened, put_unless_full, close_list, put_word, step, finish, go, reading}
-use Rattle.qk_syntax.specs.Spelling.{IsNumber, IsName, SpellsTree, SpellsTrees}
+use Rattle.qk_syntax.specs.Reader.{Level, is_top, is_full, put_unless_full, put_word, go, reading}
+use Rattle.qk_syntax.specs.Spelling.{SpellsTree, SpellsTrees}
 use Rattle.qk_syntax.specs.TextFault.{fault}
-use Rattle.qk_syntax.specs.Tokens.{Token, opening, closing, word, bad}
+use Rattle.qk_syntax.specs.Tokens.{Token, opening, closing, word}
 use Rattle.qk_syntax.specs.Words.{word_fault, word_tree, is_number_word, number_of}
 
 list_of : PlainTrees → List PlainTree

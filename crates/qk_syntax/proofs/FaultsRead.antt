@@ -1,5 +1,5 @@
 -- The fault of a list of tokens is the one that the reader meets.
-use Rattle.std.proofs.Common.{◌≡◌, ℕ, ◌+◌, ◌-◌, ◌≤◌, ◌<◌, suc, Bool, true, false, cond, ◌&&◌, ◌||◌, List, [], ◌∷◌, ◌++◌, length, map, eqb, ltb, leb, refl, sym, ap, ◌∙◌, arith, add-zero, subst, Option, Some, None, Result, Ok, Err, count_by, option_map, option_to_list}
+use Rattle.std.proofs.Common.{◌≡◌, ℕ, ◌+◌, ◌-◌, ◌≤◌, Bool, true, false, cond, ◌&&◌, List, [], ◌∷◌, ◌++◌, length, map, eqb, ltb, leb, refl, sym, ap, ◌∙◌, arith, add-zero, Option, Some, None, Result, Ok, Err, count_by, option_map, option_to_list}
 use Rattle.std.specs.List.{list_all}
 use Rattle.std.specs.Option.{option_or}
 use Rattle.std.specs.Result.{result_err}
@@ -9,7 +9,7 @@ use Rattle.std.proofs.lemmas.List.Sums.{sum_by_push}
 use Rattle.qk_base.specs.declared.place.Place.{Place}
 use Rattle.qk_base.specs.declared.place.Refusal.{Refusal}
 use Rattle.qk_syntax.specs.PlainTrees.{PlainTree, list, PlainTrees, trees_of}
-use Rattle.qk_syntax.specs.Reader.{Level, Stack, is_top, is_full, is_deep, put, opened, put_unless_full, close_list, put_word, step, finish, go, reading}
+use Rattle.qk_syntax.specs.Reader.{Level, Stack, is_top, is_full, is_deep, put, put_word, finish, go, reading}
 use Rattle.qk_syntax.specs.TextFault.{fault, is_opening, is_closing, depth, begins_tree, begun_after, begun, where_holds, excess, faults_at, faults_after, least, is_ended, unless_ended, last_open, fault_of_tokens}
 use Rattle.qk_syntax.specs.Tokens.{Token, opening, closing, word, bad}
 use Rattle.qk_syntax.specs.Words.{word_fault, word_tree, is_number_word, is_narrow, is_digit, without_minus}

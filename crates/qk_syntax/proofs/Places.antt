@@ -1,7 +1,7 @@
 -- The tokens of a text stand in order.
-use Rattle.std.proofs.Common.{◌≡◌, ℕ, ◌+◌, ◌≤◌, Bool, true, false, cond, ◌||◌, List, [], ◌∷◌, ◌++◌, eqb, refl, sym, ap, ◌∙◌, arith, subst, ◌⊎◌, inl, inr}
+use Rattle.std.proofs.Common.{◌≡◌, ℕ, ◌+◌, ◌≤◌, Bool, true, false, cond, ◌||◌, List, [], ◌∷◌, ◌++◌, eqb, refl, sym, arith, subst, ◌⊎◌, inl, inr}
 use Rattle.qk_base.specs.declared.place.Place.{Place}
-use Rattle.qk_syntax.specs.Reader.{Mode, free, in_word, in_comment, next_mode, next_place, begun_word, token_of, scan}
+use Rattle.qk_syntax.specs.Reader.{Mode, free, in_word, in_comment, next_mode, next_place, token_of, scan}
 use Rattle.qk_syntax.specs.Tokens.{Token, opening, closing, word, bad}
 use Rattle.qk_syntax.specs.Words.{is_blank, is_word_byte, word_of}
 

@@ -1,5 +1,5 @@
 -- The canonical text of trees spells them again.
-use Rattle.std.proofs.Common.{◌≡◌, ℕ, ◌+◌, ◌-◌, ◌≤◌, ◌<◌, Bool, true, false, cond, ◌&&◌, List, [], ◌∷◌, ◌++◌, length, drop, refl, sym, ap, ◌∙◌, arith, subst}
+use Rattle.std.proofs.Common.{◌≡◌, ℕ, ◌+◌, ◌-◌, ◌<◌, true, false, cond, List, [], ◌∷◌, ◌++◌, length, drop, refl, sym, ap, ◌∙◌, arith, subst}
 use Rattle.std.specs.Fmt.{signed_decimal}
 use Rattle.std.specs.List.{list_all}
 use Rattle.std.proofs.Math.Seq.{drop-append_seam}
@@ -8,10 +8,10 @@ use Rattle.qk_base.specs.declared.place.Place.{Place}
 use Rattle.qk_syntax.specs.Canonical.{canonical, canonical_tree, canonical_parts, canonical_others, ReadableTree, ReadableTrees, Readable}
 use Rattle.qk_syntax.specs.Cursors.{moved}
 use Rattle.qk_syntax.specs.Places.{start}
-use Rattle.qk_syntax.specs.PlainTrees.{PlainTree, number, name, list, PlainTrees, end, more, count, Bare, bare_number, bare_name, bare_list, Bares, bare_end, bare_more, bare, bares}
+use Rattle.qk_syntax.specs.PlainTrees.{PlainTree, number, name, list, PlainTrees, end, more, count, bare_list, Bares, bare_end, bare_more, bare, bares}
 use Rattle.qk_syntax.specs.Reader.{free, scan, next_place}
-use Rattle.qk_syntax.specs.Spelling.{IsNumber, IsName, SpellsTree, SpellsTrees, Spells}
-use Rattle.qk_syntax.specs.Tokens.{Token, opening, closing, word, bad, tokens}
+use Rattle.qk_syntax.specs.Spelling.{SpellsTree, SpellsTrees, Spells}
+use Rattle.qk_syntax.specs.Tokens.{Token, opening, closing, word, tokens}
 use Rattle.qk_syntax.specs.Words.{is_word_byte, word_of}
 use Rattle.qk_syntax.proofs.PrintedNumbers.{IsRun, printed_number, first_true, second_true}
 use Rattle.qk_syntax.proofs.ScanLaws.{scan_word_list}

@@ -1,5 +1,5 @@
 -- What is printed of a number is a word that is that number.
-use Rattle.std.proofs.Common.{◌≡◌, ℕ, ◌+◌, ◌-◌, ◌*◌, ◌/◌, ◌%◌, ◌^◌, ◌≤◌, ◌<◌, suc, ℤ, pos, negsuc, neg_ℤ, ◌≤ℤ◌, ◌<ℤ◌, Bool, true, false, cond, ◌&&◌, List, [], ◌∷◌, ◌++◌, length, eqb, ltb, leb, refl, sym, ap, ◌∙◌, arith, subst, Option, Some, None, fold}
+use Rattle.std.proofs.Common.{◌≡◌, ℕ, ◌+◌, ◌-◌, ◌*◌, ◌/◌, ◌%◌, ◌^◌, ◌≤◌, ◌<◌, suc, ℤ, pos, negsuc, neg_ℤ, ◌≤ℤ◌, ◌<ℤ◌, Bool, true, false, cond, ◌&&◌, List, [], ◌∷◌, ◌++◌, length, eqb, refl, ap, ◌∙◌, arith, Option, Some, None}
 use Rattle.std.specs.Fmt.{decimal, signed_decimal}
 use Rattle.std.specs.List.{list_all}
 use Rattle.std.proofs.lemmas.Bool.Decides.{nat_tests}
@@ -9,7 +9,7 @@ use Rattle.std.proofs.lemmas.List.{length_push}
 use Rattle.std.proofs.lemmas.List.Folds.{list_all-append}
 use Rattle.std.proofs.lemmas.List.Sums.{fold_push}
 use Rattle.qk_syntax.specs.Spelling.{IsNumber}
-use Rattle.qk_syntax.specs.Words.{is_word_byte, is_digit, begins_with_digit, begins_with_minus, without_minus, is_number_word, magnitude, signed_number, fits_signed, number_of, word_fault}
+use Rattle.qk_syntax.specs.Words.{is_word_byte, is_digit, begins_with_digit, begins_with_minus, without_minus, is_number_word, magnitude, signed_number, fits_signed}
 
 record Digits (n : ℕ) (ds : List ℕ) : Type 0 where
   digits : list_all is_digit ds ≡ true

@@ -1,9 +1,8 @@
 -- What is read from a word on.
-use Rattle.std.proofs.Common.{◌≡◌, ℕ, ◌+◌, ◌<◌, true, List, ◌∷◌, length, get_or, drop, ap, sym, ◌∙◌, Result, Ok, Err}
+use Rattle.std.proofs.Common.{◌≡◌, ℕ, ◌+◌, ◌<◌, true, List, length, get_or, drop, ap, sym, ◌∙◌, Result}
 use Rattle.qk_base.specs.declared.place.Place.{Place}
 use Rattle.qk_base.specs.declared.place.Refusal.{Refusal}
 use Rattle.qk_syntax.specs.Cursors.{moved}
-use Rattle.qk_syntax.specs.PlainTrees.{PlainTrees}
 use Rattle.qk_syntax.specs.Reader.{Stack, free, scan, step, go, reading}
 use Rattle.qk_syntax.specs.Tokens.{word}
 use Rattle.qk_syntax.specs.Words.{is_word_byte, word_of}

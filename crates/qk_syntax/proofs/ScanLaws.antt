@@ -1,10 +1,10 @@
 -- What is left to scan after blanks, comments and words.
-use Rattle.std.proofs.Common.{◌≡◌, ℕ, ◌+◌, ◌<◌, ◌≤◌, ◌≢◌, Bool, true, false, cond, not, ◌&&◌, ◌||◌, List, [], ◌∷◌, ◌++◌, length, get_or, take, drop, refl, sym, ap, ◌∙◌, arith, eqb, add-zero, add_assoc, suc, add-one, subst, drop-cons}
+use Rattle.std.proofs.Common.{◌≡◌, ℕ, ◌+◌, ◌<◌, ◌≤◌, Bool, true, false, cond, ◌||◌, List, [], ◌∷◌, ◌++◌, length, get_or, take, drop, refl, sym, ap, ◌∙◌, arith, eqb, add-zero, add_assoc, suc, subst, drop-cons}
 use Rattle.std.proofs.lemmas.List.{at_drop_more, at_drop_all, drop-drop}
 use Rattle.std.proofs.lemmas.Bool.Decides.{nat_tests}
 use Rattle.qk_base.specs.declared.place.Place.{Place}
-use Rattle.qk_syntax.specs.Cursors.{skipping, IsSkipped, IsTokenByte, moved}
-use Rattle.qk_syntax.specs.Reader.{Mode, free, in_word, in_comment, next_mode, next_place, token_of, scan}
+use Rattle.qk_syntax.specs.Cursors.{skipping, IsSkipped, moved}
+use Rattle.qk_syntax.specs.Reader.{Mode, free, in_word, in_comment, next_mode, next_place, scan}
 use Rattle.qk_syntax.specs.Tokens.{Token, opening, closing, word, bad}
 use Rattle.qk_syntax.specs.Words.{is_blank, is_word_byte, word_of}
 

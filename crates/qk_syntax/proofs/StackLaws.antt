@@ -1,12 +1,11 @@
 -- The lists that are open, as the code and the definitions keep them.
-use Rattle.std.proofs.Common.{◌≡◌, ℕ, ◌+◌, suc, List, [], ◌∷◌, ◌++◌, length, refl, sym, ap, ◌∙◌, arith, fold, Bool, true, false, eqb, leb, ◌&&◌}
+use Rattle.std.proofs.Common.{◌≡◌, ◌+◌, List, [], ◌∷◌, length, refl, ap, ◌∙◌, arith, fold, eqb, leb, ◌&&◌}
 use Rattle.std.proofs.lemmas.Bool.Decides.{nat_tests}
 use Rattle.std.proofs.lemmas.List.{length-map}
 use Rattle.qk_syntax.specs.Reader.{Level, is_top, is_full, is_deep}
 use Rattle.qk_syntax.specs.Stacks.{level_of, levels_of, stack_of}
 use Rattle.qk_syntax.specs.declared.open_lists.OpenList.{OpenList}
 use Rattle.qk_syntax.specs.declared.open_lists.OpenLists.{OpenLists}
-use Rattle.qk_syntax.specs.View.{view}
 
 onto : (ls : List OpenList) (levels : List Level) → length (fold (λ ks l. level_of l ∷ ks) levels ls) ≡ length ls + length levels
 onto [] levels = omega arith

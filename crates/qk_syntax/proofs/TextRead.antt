@@ -1,5 +1,5 @@
 -- Texts, their trees and their faults.
-use Rattle.std.proofs.Common.{◌≡◌, ℕ, ◌≤◌, ◌<◌, Bool, true, false, cond, List, [], length, ltb, refl, sym, ap, ◌∙◌, arith, subst, Option, Some, None, Result, Ok, Err}
+use Rattle.std.proofs.Common.{◌≡◌, ℕ, ◌≤◌, Bool, true, false, cond, List, [], length, ltb, refl, sym, ap, ◌∙◌, arith, Some, None, Result, Ok, Err}
 use Rattle.std.specs.Result.{result_err}
 use Rattle.std.proofs.lemmas.Bool.Decides.{nat_tests}
 use Rattle.qk_base.specs.declared.place.Refusal.{Refusal}

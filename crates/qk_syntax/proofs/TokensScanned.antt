@@ -1,5 +1,5 @@
 -- The tokens of a text, found byte by byte.
-use Rattle.std.proofs.Common.{◌≡◌, ℕ, ◌+◌, Bool, true, false, cond, ◌||◌, List, [], ◌∷◌, ◌++◌, length, eqb, refl, sym, ap, ◌∙◌, arith, fold, count_by}
+use Rattle.std.proofs.Common.{◌≡◌, ℕ, ◌+◌, Bool, true, false, cond, ◌||◌, List, [], ◌∷◌, ◌++◌, length, eqb, refl, sym, ap, ◌∙◌, arith, count_by}
 use Rattle.std.proofs.lemmas.Bool.Decides.{nat_tests}
 use Rattle.std.proofs.lemmas.List.{length_push}
 use Rattle.std.proofs.lemmas.List.Folds.{list_any-append}
@@ -7,7 +7,7 @@ use Rattle.std.proofs.lemmas.List.Sums.{fold_push, sum_by_push}
 use Rattle.std.specs.List.{list_any}
 use Rattle.qk_base.specs.declared.place.Place.{Place}
 use Rattle.qk_syntax.specs.Places.{last_line, place_after}
-use Rattle.qk_syntax.specs.Reader.{Mode, free, in_word, in_comment, mode_by, next_mode, next_place, begun_word, token_of, scan}
+use Rattle.qk_syntax.specs.Reader.{Mode, free, in_word, in_comment, mode_by, next_mode, next_place, token_of, scan}
 use Rattle.qk_syntax.specs.Tokens.{Token, opening, closing, word, bad, ends_in_comment, ends_in_word, token_at, tokens_after, tokens}
 use Rattle.qk_syntax.specs.Words.{is_blank, is_word_byte, word_of}
 

@@ -12,12 +12,6 @@ mutual
     end : PlainTrees
     more : PlainTree → PlainTrees → PlainTrees
 
--- the tree at another place
-abbrev pub placed : Place → PlainTree → PlainTree
-placed p (number q n) = number p n
-placed p (name q w) = name p w
-placed p (list q ts) = list p ts
-
 abbrev pub trees_of : List PlainTree → PlainTrees
 trees_of [] = end
 trees_of (t ∷ ts) = more t (trees_of ts)

@@ -1,6 +1,5 @@
 -- How the reader goes: token by token, with the lists that are open. No clause of a public call speaks of it.
-use Rattle.std.specs.Prelude.{◌≡◌, ℕ, ◌+◌, ◌≤◌, Bool, true, false, ◌&&◌, ◌||◌, List, [], ◌∷◌, ◌++◌, length, ◌==◌, nat_le, if◌then◌else◌, Option, Some, None, Result, Ok, Err, map}
-use Rattle.std.specs.List.{fold}
+use Rattle.std.specs.Prelude.{ℕ, ◌+◌, Bool, true, false, ◌&&◌, ◌||◌, List, [], ◌∷◌, ◌++◌, length, ◌==◌, nat_le, if◌then◌else◌, Option, Some, None, Result, Ok, Err}
 use Rattle.qk_base.specs.declared.place.Place.{Place}
 use Rattle.qk_base.specs.declared.place.Refusal.{Refusal}
 use Rattle.qk_syntax.specs.PlainTrees.{PlainTree, list, PlainTrees, trees_of}

@@ -1,4 +1,4 @@
-use Rattle.std.proofs.Common.{◌≡◌, ℕ, ◌≤◌, List, length, Option, Some, None, Result, Ok, Err, IfOk, IfErr, OnOk}
+use Rattle.std.proofs.Common.{◌≡◌, ℕ, ◌≤◌, List, length, Some, None, Result, Ok, Err, IfOk, IfErr, OnOk}
 use Rattle.qk_base.specs.Growing.{Growing}
 use Rattle.qk_base.specs.declared.fault.Fault.{Fault}
 use Rattle.qk_base.specs.declared.fault.Fault.TheVariants as faults

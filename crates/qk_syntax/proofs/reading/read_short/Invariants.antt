@@ -1,4 +1,4 @@
-use Rattle.std.proofs.Common.{◌≡◌, ◌-◌, ◌<◌, [], length, drop, slice_index}
+use Rattle.std.proofs.Common.{◌≡◌, ◌-◌, ◌<◌, length, drop, slice_index}
 use Rattle.qk_syntax.specs.Cursors.{IsWithin, IsTokenByte}
 use Rattle.qk_syntax.specs.Places.{start}
 use Rattle.qk_syntax.specs.Reader.{free, scan, reading}
