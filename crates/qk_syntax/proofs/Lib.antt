@@ -6,6 +6,7 @@ pub mod Least
 pub mod Places
 pub mod Printed
 pub mod PrintedNumbers
+pub mod ReadableLaws
 pub mod ReadingLaws
 pub mod ScanLaws
 pub mod StackLaws
