@@ -1,8 +1,7 @@
 -- Small texts, computed.
-use Rattle.std.proofs.Common.{◌≡◌, ℕ, List, [], ◌∷◌, ◌++◌, replicate, refl, codes, Some, None}
-use Rattle.qk_syntax.specs.PlainTrees.{PlainTree, number, name, list, PlainTrees, end, more}
+use Rattle.std.proofs.Common.{◌≡◌, [], ◌∷◌, ◌++◌, refl, codes, Some, None}
 use Rattle.qk_syntax.specs.TextFault.{text_fault, fault}
-use Rattle.qk_syntax.specs.Tokens.{Token, opening, closing, word, bad, tokens}
+use Rattle.qk_syntax.specs.Tokens.{opening, word, tokens}
 
 stray : text_fault (codes "(prop a))") ≡ Some (fault 3 (record { line = 1; column = 9 }))
 stray = refl

@@ -10,3 +10,7 @@ last_line bytes = fold (λ line b. if b == 10 then [] else line ++ b ∷ []) [] 
 -- the place of the byte that follows these: lines and columns are counted from 1, and columns in bytes
 abbrev pub place_after : List ℕ → Place
 place_after before = record { line = count_by (λ b. b == 10) before + 1; column = length (last_line before) + 1 }
+
+-- the place of the first byte of a text
+abbrev pub start : Place
+start = place_after []

@@ -1,6 +1,5 @@
 -- How the reader goes: token by token, with the lists that are open. No clause of a public call speaks of it.
-use Rattle.std.specs.Prelude.{◌≡◌, ℕ, ◌+◌, ◌≤◌, Bool, true, false, ◌&&◌, ◌||◌, List, [], ◌∷◌, ◌++◌, length, ◌==◌, nat_le, if◌then◌else◌, Option, Some, None, Result, Ok, Err, map}
-use Rattle.std.specs.List.{fold}
+use Rattle.std.specs.Prelude.{ℕ, ◌+◌, Bool, true, false, ◌&&◌, ◌||◌, List, [], ◌∷◌, ◌++◌, length, ◌==◌, nat_le, if◌then◌else◌, Option, Some, None, Result, Ok, Err}
 use Rattle.qk_base.specs.declared.place.Place.{Place}
 use Rattle.qk_base.specs.declared.place.Refusal.{Refusal}
 use Rattle.qk_syntax.specs.PlainTrees.{PlainTree, list, PlainTrees, trees_of}
@@ -14,9 +13,13 @@ pub data Mode : Type 0 where
   in_word : Mode
   in_comment : Mode
 
+-- after a byte that ends a line, begins a comment, or stands in words
+abbrev pub mode_by : Bool → Bool → Bool → Mode → Mode
+mode_by feeds comments words in_comment = if feeds then free else in_comment
+mode_by feeds comments words m = if comments then in_comment else (if words then in_word else free)
+
 abbrev pub next_mode : Mode → ℕ → Mode
-next_mode in_comment b = if b == 10 then free else in_comment
-next_mode m b = if b == 59 then in_comment else (if is_word_byte b then in_word else free)
+next_mode m b = mode_by (b == 10) (b == 59) (is_word_byte b) m
 
 abbrev pub next_place : Place → ℕ → Place
 next_place p b = if b == 10 then record { line = p.line + 1; column = 1 } else record { line = p.line; column = p.column + 1 }
@@ -28,11 +31,11 @@ begun_word m p bytes = []
 abbrev pub token_of : Mode → Place → ℕ → List ℕ → List Token
 token_of in_comment p b bytes = []
 token_of m p b bytes =
-  if is_blank b || b == 59 then []
-  else (if b == 40 then opening p ∷ []
-  else (if b == 41 then closing p ∷ []
-  else (if is_word_byte b then begun_word m p (b ∷ bytes)
-  else bad p ∷ [])))
+    if is_blank b || b == 59 then []
+    else (if b == 40 then opening p ∷ []
+    else (if b == 41 then closing p ∷ []
+    else (if is_word_byte b then begun_word m p (b ∷ bytes)
+    else bad p ∷ [])))
 
 abbrev pub scan : List ℕ → Mode → Place → List Token
 scan [] m p = []
@@ -55,6 +58,9 @@ is_top (l ∷ ls) = false
 abbrev pub is_full : Stack → Bool
 is_full s = is_top s.outer && nat_le 1000 (length s.items)
 
+abbrev pub is_deep : Stack → Bool
+is_deep s = nat_le 200 (length s.outer)
+
 abbrev pub put : Stack → PlainTree → Stack
 put s t = record { items = s.items ++ t ∷ []; outer = s.outer }
 
@@ -75,7 +81,7 @@ put_word s p w None = put_unless_full s p (put s (word_tree p w))
 abbrev pub step : Stack → Token → Result Stack Refusal
 step s (bad p) = Err (fault 2 p)
 step s (closing p) = close_list s.outer s.items p
-step s (opening p) = if nat_le 200 (length s.outer) then Err (fault 8 p) else put_unless_full s p (opened s p)
+step s (opening p) = if is_deep s then Err (fault 8 p) else put_unless_full s p (opened s p)
 step s (word p w) = put_word s p w (word_fault w)
 
 abbrev pub finish : List Level → List PlainTree → Result PlainTrees Refusal

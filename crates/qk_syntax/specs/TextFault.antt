@@ -4,7 +4,7 @@ use Rattle.std.specs.List.{count_by}
 use Rattle.std.specs.Option.{option_map, option_or, option_to_list}
 use Rattle.qk_base.specs.declared.place.Place.{Place}
 use Rattle.qk_base.specs.declared.place.Refusal.{Refusal}
-use Rattle.qk_syntax.specs.Places.{place_after}
+use Rattle.qk_syntax.specs.Places.{start}
 use Rattle.qk_syntax.specs.Tokens.{Token, opening, closing, word, bad, tokens}
 use Rattle.qk_syntax.specs.Words.{word_fault}
 
@@ -90,4 +90,4 @@ fault_of_tokens ts = option_or (least (faults_after [] ts)) (option_map (fault 4
 
 -- the fault of the text, if it has one
 abbrev pub text_fault : List ℕ → Option Refusal
-text_fault bytes = if nat_lt 1048576 (length bytes) then Some (fault 1 (place_after [])) else fault_of_tokens (tokens bytes)
+text_fault bytes = if nat_lt 1048576 (length bytes) then Some (fault 1 start) else fault_of_tokens (tokens bytes)

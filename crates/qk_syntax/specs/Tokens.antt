@@ -1,5 +1,5 @@
 -- What a text consists of: parentheses, words and bad bytes, each with its place.
-use Rattle.std.specs.Prelude.{ℕ, Bool, true, false, ◌||◌, List, [], ◌∷◌, ◌++◌, ◌==◌, if◌then◌else◌}
+use Rattle.std.specs.Prelude.{ℕ, Bool, false, ◌||◌, List, [], ◌∷◌, ◌++◌, ◌==◌, if◌then◌else◌}
 use Rattle.std.specs.List.{fold, list_any}
 use Rattle.qk_base.specs.declared.place.Place.{Place}
 use Rattle.qk_syntax.specs.Places.{last_line, place_after}
@@ -22,11 +22,11 @@ ends_in_word bytes = fold (λ _ b. is_word_byte b) false bytes
 abbrev pub token_at : List ℕ → List ℕ → List Token
 token_at before [] = []
 token_at before (b ∷ bytes) =
-  if ends_in_comment (before ++ b ∷ []) || is_blank b then []
-  else (if b == 40 then opening (place_after before) ∷ []
-  else (if b == 41 then closing (place_after before) ∷ []
-  else (if is_word_byte b then (if ends_in_word before then [] else word (place_after before) (word_of (b ∷ bytes)) ∷ [])
-  else bad (place_after before) ∷ [])))
+    if ends_in_comment (before ++ b ∷ []) || is_blank b then []
+    else (if b == 40 then opening (place_after before) ∷ []
+    else (if b == 41 then closing (place_after before) ∷ []
+    else (if is_word_byte b then (if ends_in_word before then [] else word (place_after before) (word_of (b ∷ bytes)) ∷ [])
+    else bad (place_after before) ∷ [])))
 
 -- the tokens that begin in the bytes, after those before
 abbrev pub tokens_after : List ℕ → List ℕ → List Token

@@ -3,7 +3,7 @@ use Rattle.std.specs.Prelude.{List, map}
 use Rattle.qk_base.specs.declared.place.Place.{Place}
 use Rattle.qk_syntax.specs.PlainTrees.{PlainTree, number, name, list, PlainTrees, trees_of}
 use Rattle.qk_syntax.specs.declared.tree.Tree.{Tree}
-use Rattle.qk_syntax.specs.declared.tree.Node.{fold-Node}
+use Rattle.qk_syntax.specs.declared.tree.Node.TheFolds.{fold-Tree}
 use Rattle.qk_syntax.specs.declared.tree.Node.TheOpen.{Node-F, Tree-F}
 
 -- one level, with each tree inside already seen as its data
@@ -16,7 +16,7 @@ abbrev pub tree_step : Tree-F (Place → PlainTree) PlainTree → PlainTree
 tree_step t = t.node t.place
 
 abbrev pub view : Tree → PlainTree
-view t = fold-Node (Place → PlainTree) PlainTree node_step tree_step t.node t.place
+view = fold-Tree (Place → PlainTree) PlainTree node_step tree_step
 
 abbrev pub views : List Tree → PlainTrees
 views ts = trees_of (map view ts)

@@ -1,5 +1,5 @@
 -- Bytes and words.
-use Rattle.std.specs.Prelude.{◌≡◌, ℕ, ◌+◌, ◌-◌, ◌*◌, ◌^◌, ◌≤◌, ℤ, pos, neg_ℤ, Bool, true, false, not, ◌&&◌, ◌||◌, List, [], ◌∷◌, length, ◌==◌, nat_lt, nat_le, if◌then◌else◌, Option, Some, None}
+use Rattle.std.specs.Prelude.{ℕ, ◌+◌, ◌-◌, ◌*◌, ◌^◌, ℤ, pos, neg_ℤ, Bool, false, not, ◌&&◌, ◌||◌, List, [], ◌∷◌, length, ◌==◌, nat_lt, nat_le, if◌then◌else◌, Option, Some, None}
 use Rattle.std.specs.List.{fold, list_all}
 use Rattle.qk_base.specs.declared.place.Place.{Place}
 use Rattle.qk_syntax.specs.PlainTrees.{PlainTree, number, name}
@@ -41,12 +41,18 @@ is_number_word word = begins_with_digit (without_minus word)
 abbrev pub magnitude : List ℕ → ℕ
 magnitude digits = fold (λ n d. 10 * n + (d - 48)) 0 digits
 
-abbrev pub number_of : List ℕ → ℤ
-number_of word = if begins_with_minus word then neg_ℤ (pos (magnitude (without_minus word))) else pos (magnitude (without_minus word))
+abbrev pub signed_number : Bool → ℕ → ℤ
+signed_number minus size = if minus then neg_ℤ (pos size) else pos size
 
--- a number from the least to the greatest of 64 bits
+-- the number lies between the least and the greatest of 64 bits
+abbrev pub fits_signed : Bool → ℕ → Bool
+fits_signed minus size = nat_lt size (if minus then 2 ^ 63 + 1 else 2 ^ 63)
+
+abbrev pub number_of : List ℕ → ℤ
+number_of word = signed_number (begins_with_minus word) (magnitude (without_minus word))
+
 abbrev pub is_narrow : List ℕ → Bool
-is_narrow word = nat_lt (magnitude (without_minus word)) (if begins_with_minus word then 2 ^ 63 + 1 else 2 ^ 63)
+is_narrow word = fits_signed (begins_with_minus word) (magnitude (without_minus word))
 
 -- the fault of a word, if it has one: 5, a number word that is no number; 6, a number outside 64 bits; 7, a name of more than 64 bytes
 abbrev pub word_fault : List ℕ → Option ℕ
