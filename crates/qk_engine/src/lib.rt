@@ -4,7 +4,7 @@
 mod attempting;
 mod form;
 mod made;
-mod numeral;
+mod parts;
 mod replying;
 mod report;
 mod sequential;

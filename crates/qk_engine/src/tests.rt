@@ -73,12 +73,14 @@ const PASSED: &str = "b: passed 100 tests, 0 discarded
 properties: 1, passed 1, failed 0, gave up 0
 ";
 
-const REFUSED: &str = "refused 19 at 1:1\n";
+const NOT_BUILT: &str = "refused 19 at 1:1\n";
 
 const USAGE: &str = "usage: quicker [options] FILE\n";
 
+const TWO_BLANKS: &str = "(prop  b (forall ((x (choose 0 0))) (check (< x 1))))";
+
 #[test]
-fn files_and_words(rt: HostRuntime) -> Result<(), Fail> {
+fn files(rt: HostRuntime) -> Result<(), Fail> {
     let f = ["f"].as_slice();
     let files = [
         (FAILING, 1, FAILING_REPORT),
@@ -92,51 +94,112 @@ fn files_and_words(rt: HostRuntime) -> Result<(), Fail> {
             0,
             PASSED,
         ),
+        (TWO_BLANKS, 0, PASSED),
         (
-            "(prop b (forall ((x (choose 0 -0))) (check (< x 1))))",
-            3,
-            REFUSED,
-        ),
-        (
-            "(prop b (forall ((x (choose 0 00))) (check (< x 1))))",
-            3,
-            REFUSED,
-        ),
-        (
-            "(prop b (forall ((x (choose 0 9223372036854775808))) (check (< x 1))))",
-            3,
-            REFUSED,
-        ),
-        (
-            "(prop b (forall ((x (choose -9223372036854775808 -9223372036854775808))) (check (< x 1))))",
+            "; a comment with ) and \u{e9}\n(prop b(forall((x(choose -0 00)))\r\n\t(check(< x 1))));",
             0,
             PASSED,
         ),
         (
-            "(prop  b (forall ((x (choose 0 0))) (check (< x 1))))",
-            3,
-            REFUSED,
+            "(prop b (forall ((x (choose -9223372036854775808 -009223372036854775808))) (check (< x 1))))",
+            0,
+            PASSED,
         ),
         (
             "(prop B (forall ((x (choose 0 0))) (check (< x 1))))",
             3,
-            REFUSED,
+            NOT_BUILT,
         ),
         (
-            "(prop b (forall ((x (choose 0 0))) (check (< x 1))))\n\n",
+            "(prop bb (forall ((x (choose 0 0))) (check (< x 1))))",
             3,
-            REFUSED,
+            NOT_BUILT,
         ),
-        ("", 3, REFUSED),
+        (
+            "(prop b (forall ((x (choose 0 0))) (check (< x 1)))) b",
+            3,
+            NOT_BUILT,
+        ),
+        (
+            "(prop b (forall ((y (choose 0 0))) (check (< x 1))))",
+            3,
+            NOT_BUILT,
+        ),
+        (
+            "(prop b (forall ((x (choose 0))) (check (< x 1))))",
+            3,
+            NOT_BUILT,
+        ),
+        (
+            "(prop b (forall ((x (choose 0 0))) (check (< x b))))",
+            3,
+            NOT_BUILT,
+        ),
+        ("", 3, NOT_BUILT),
+        ("(prop a))", 3, "refused 3 at 1:9\n"),
+        ("(prop a", 3, "refused 4 at 1:1\n"),
+        (
+            "(prop a (forall ((x (choose 0 9223372036854775808))) (check true)))",
+            3,
+            "refused 6 at 1:31\n",
+        ),
+        (")\"", 3, "refused 3 at 1:1\n"),
+        ("\")", 3, "refused 2 at 1:1\n"),
+        ("12a", 3, "refused 5 at 1:1\n"),
+        ("(a\n  -1x)", 3, "refused 5 at 2:3\n"),
     ];
     for (file, status, text) in files {
         answers(&rt, f, file, &CALM, status, text)?;
     }
-    answers(&rt, [].as_slice(), FAILING, &CALM, 2, USAGE)?;
-    answers(&rt, ["-f"].as_slice(), FAILING, &CALM, 2, USAGE)?;
-    answers(&rt, [""].as_slice(), FAILING, &CALM, 2, USAGE)?;
-    answers(&rt, ["f", "f"].as_slice(), FAILING, &CALM, 2, USAGE)?;
-    answers(&rt, ["--fast", "f"].as_slice(), FAILING, &CALM, 2, USAGE)?;
+    Ok(())
+}
+
+#[test]
+fn long_files(rt: HostRuntime) -> Result<(), Fail> {
+    let f = ["f"].as_slice();
+    let mut blanks = String::new(rt.alloc());
+    for _ in 0..1_048_576u32 {
+        blanks.push(' ')?;
+    }
+    answers(&rt, f, blanks.as_str(), &CALM, 3, NOT_BUILT)?;
+    blanks.push(' ')?;
+    answers(&rt, f, blanks.as_str(), &CALM, 3, "refused 1 at 1:1\n")?;
+    let mut opened = String::new(rt.alloc());
+    for _ in 0..200u32 {
+        opened.push('(')?;
+    }
+    answers(&rt, f, opened.as_str(), &CALM, 3, "refused 4 at 1:200\n")?;
+    opened.push('(')?;
+    answers(&rt, f, opened.as_str(), &CALM, 3, "refused 8 at 1:201\n")?;
+    let mut items = String::new(rt.alloc());
+    for _ in 0..1000u32 {
+        items.push_str("0 ")?;
+    }
+    answers(&rt, f, items.as_str(), &CALM, 3, NOT_BUILT)?;
+    items.push_str("0 ")?;
+    answers(&rt, f, items.as_str(), &CALM, 3, "refused 9 at 1:2001\n")?;
+    let mut name = String::new(rt.alloc());
+    for _ in 0..64u32 {
+        name.push('a')?;
+    }
+    answers(&rt, f, name.as_str(), &CALM, 3, NOT_BUILT)?;
+    name.push('a')?;
+    answers(&rt, f, name.as_str(), &CALM, 3, "refused 7 at 1:1\n")
+}
+
+#[test]
+fn words(rt: HostRuntime) -> Result<(), Fail> {
+    let words = [
+        [].as_slice(),
+        ["-f"].as_slice(),
+        ["--help"].as_slice(),
+        [""].as_slice(),
+        ["f", "f"].as_slice(),
+        ["--fast", "f"].as_slice(),
+    ];
+    for list in words {
+        answers(&rt, list, FAILING, &CALM, 2, USAGE)?;
+    }
     answers(&rt, ["g"].as_slice(), FAILING, &CALM, 4, "")
 }
 
