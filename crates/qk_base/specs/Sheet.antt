@@ -21,5 +21,5 @@ accepted s piece = min (min s.most (length piece)) s.room
 
 abbrev pub after_write : Sheet → List ℕ → Sheet
 after_write s piece = if write_fails s
-  then record s { calls = risen s.calls; faults = risen s.faults }
-  else record s { bytes = s.bytes ++ take (accepted s piece) piece; room = s.room - accepted s piece; calls = risen s.calls }
+    then record s { calls = risen s.calls; faults = risen s.faults }
+    else record s { bytes = s.bytes ++ take (accepted s piece) piece; room = s.room - accepted s piece; calls = risen s.calls }

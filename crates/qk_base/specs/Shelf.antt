@@ -24,9 +24,9 @@ is_named name file = pointwise nat_eq file.name name
 abbrev pub held : List File → List ℕ → Option (List ℕ)
 held [] name = None
 held (f ∷ fs) name = elim (held fs name) [
-    Some bytes ↦ Some bytes
+  | Some bytes ↦ Some bytes
   | None ↦ if is_named name f then Some f.bytes else None
-  ]
+]
 
 -- a count that stands still at its last value
 abbrev pub risen : ℕ → ℕ
@@ -52,5 +52,5 @@ given s room = min (min s.most room) (length s.left)
 -- after a read the rest is left; after a failed one the faults have risen
 abbrev pub after_read : Shelf → ℕ → Shelf
 after_read s room = if is_next s.failing s.calls
-  then record s { calls = risen s.calls; faults = risen s.faults }
-  else record s { calls = risen s.calls; left = drop (given s room) s.left }
+    then record s { calls = risen s.calls; faults = risen s.faults }
+    else record s { calls = risen s.calls; left = drop (given s room) s.left }

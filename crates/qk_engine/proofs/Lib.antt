@@ -1,5 +1,4 @@
 pub mod Attempts
-pub mod Forms
-pub mod Numerals
+pub mod Counting
 pub mod Replies
 pub mod Texts

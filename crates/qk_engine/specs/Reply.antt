@@ -6,10 +6,14 @@ use Rattle.qk_schedule.specs.declared.limits.Limits.{Limits}
 use Rattle.qk_schedule.specs.Counts.{Counts}
 use Rattle.qk_schedule.specs.Quick.{rules_of}
 use Rattle.qk_schedule.specs.Sequential.{Run, sequential}
+use Rattle.qk_base.specs.declared.place.Refusal.{Refusal}
+use Rattle.qk_syntax.specs.PlainTrees.{PlainTrees}
+use Rattle.qk_syntax.specs.Spelling.{Spells}
+use Rattle.qk_syntax.specs.TextFault.{text_fault}
 use Rattle.qk_engine.specs.declared.form.Form.{Form}
 use Rattle.qk_engine.specs.Attempt.{drawn, outcome}
 use Rattle.qk_engine.specs.Form.{IsForm}
-use Rattle.qk_engine.specs.Report.{line, block, last_line, totals, status_of}
+use Rattle.qk_engine.specs.Report.{line, named, block, last_line, totals, status_of}
 use Rattle.qk_engine.specs.Words.{file_named}
 
 -- the limits of every run: 100 successes, 10 discards for each, sizes up to 100
@@ -32,15 +36,28 @@ report form = block (form.name ∷ []) (drawn form seed) (run_of form).finish (r
 abbrev pub usage : List ℕ
 usage = line (codes "usage: quicker [options] FILE")
 
--- a file that is not of the form that is built
-abbrev pub not_built : List ℕ
-not_built = line (codes "refused 19 at 1:1")
+-- the refusal of a file: a code and a place
+abbrev pub refusal : Refusal → List ℕ
+refusal r = line (named (codes "refused ") r.code ++ named (codes " at ") r.place.line ++ named (codes ":") r.place.column)
 
--- the answers to a file: the report of the form that it is the text of, or a refusal where it is the text of none
+-- a file that can be read and is not of the form that is built
+abbrev pub not_built : Refusal
+not_built = record { code = 19; place = record { line = 1; column = 1 } }
+
+abbrev pub Refuses : Refusal → Status → List ℕ → Type 0
+Refuses r s text = (s ≡ status.Refused) × (text ≡ refusal r)
+
+-- the answers to the trees of a file: the report of the form that they are of, or a refusal where they are of none
+abbrev pub TreesReply : PlainTrees → Status → List ℕ → Type 0
+TreesReply trees s text =
+    ((form : Form) × IsForm trees form × (s ≡ status_of (run_of form).finish) × (text ≡ report form))
+    ⊎ (((form : Form) → IsForm trees form → ⊥) × Refuses not_built s text)
+
+-- the answers to a file: the refusal of its fault, or those to the trees that it spells
 abbrev pub FileReplies : List ℕ → Status → List ℕ → Type 0
 FileReplies bytes s text =
-    ((form : Form) × IsForm bytes form × (s ≡ status_of (run_of form).finish) × (text ≡ report form))
-    ⊎ (((form : Form) → IsForm bytes form → ⊥) × (s ≡ status.Refused) × (text ≡ not_built))
+    ((r : Refusal) × (text_fault bytes ≡ Some r) × Refuses r s text)
+    ⊎ ((trees : PlainTrees) × Spells bytes trees × TreesReply trees s text)
 
 abbrev pub replies_to : Option (List ℕ) → List ℕ → Status → List ℕ → Type 0
 replies_to None bytes s text = (s ≡ status.Usage) × (text ≡ usage)

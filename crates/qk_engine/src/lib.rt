@@ -4,10 +4,12 @@
 mod attempting;
 mod form;
 mod made;
-mod numeral;
+mod parts;
 mod replying;
 mod report;
 mod sequential;
+#[cfg(test)]
+mod tests;
 mod text;
 mod top;
 mod words;

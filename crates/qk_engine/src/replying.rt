@@ -1,16 +1,18 @@
 //! The reply to a file.
 ghost use Rattle.std.specs.Prelude.{◌≡◌, IfOk};
-ghost use Rattle.qk_engine.specs.Reply.{FileReplies, usage, not_built, report, run_of};
+ghost use Rattle.qk_engine.specs.Reply.{FileReplies, TreesReply, Refuses, usage, report, run_of};
 ghost use Rattle.qk_engine.specs.Report.{status_of as status_after};
+ghost use Rattle.qk_syntax.specs.View.{views};
 ghost use Rattle.qk_base.specs.declared.status.Status.TheVariants as status;
 
-use crate::form::{Form, parse};
+use crate::form::{Form, form_of};
 use crate::made::Made;
 use crate::report::{put_block, status_of, totals};
 use crate::sequential::run_attempts;
-use crate::text::{put, put_last_line};
-use qk_base::{Bytes, Memory, Status};
+use crate::text::{put, put_last_line, put_refusal};
+use qk_base::{Bytes, Fault, Memory, Place, Refusal, Status};
 use qk_schedule::Limits;
+use qk_syntax::{Tree, read};
 use std::alloc::Global;
 
 /// The limits of every run.
@@ -19,6 +21,12 @@ const LIMITS: Limits = Limits {
     ratio: 10,
     max_size: 100,
     covers: 0,
+};
+
+/// The refusal of a file that is not of the form that is built.
+const NOT_BUILT: Refusal = Refusal {
+    code: 19,
+    place: Place { line: 1, column: 1 },
 };
 
 /// The seed of every run.
@@ -40,18 +48,29 @@ pub fn usage_reply(alloc: Global) -> Result<Made, Memory>
 pub fn file_reply(alloc: Global, bytes: &[u8]) -> Result<Made, Memory>
     ensures { IfOk result (λ made. FileReplies bytes.now made.status made.text.items) }
 {
-    match parse(alloc, bytes)? {
-        None => refusal(alloc),
+    match read(alloc, bytes) {
+        Ok(trees) => trees_reply(alloc, trees.as_slice()),
+        Err(Fault::Memory) => Err(Memory),
+        Err(Fault::Refused(refusal)) => refusal_reply(alloc, refusal),
+    }
+}
+
+// The reply to the trees of a file.
+fn trees_reply(alloc: Global, trees: &[Tree]) -> Result<Made, Memory>
+    ensures { IfOk result (λ made. TreesReply (views trees.now) made.status made.text.items) }
+{
+    match form_of(trees) {
+        None => refusal_reply(alloc, NOT_BUILT),
         Some(form) => run_reply(alloc, &form),
     }
 }
 
-// The reply to a file that is not of the form that is built.
-fn refusal(alloc: Global) -> Result<Made, Memory>
-    ensures { IfOk result (λ made. (made.status ≡ status.Refused) × (made.text.items ≡ not_built)) }
+// The reply to a file that is refused.
+fn refusal_reply(alloc: Global, refusal: Refusal) -> Result<Made, Memory>
+    ensures { IfOk result (λ made. Refuses refusal made.status made.text.items) }
 {
     let mut text = Bytes::make(alloc);
-    put(&mut text, "refused 19 at 1:1\n")?;
+    put_refusal(alloc, &mut text, refusal)?;
     Ok(Made {
         status: Status::Refused,
         text,

@@ -26,12 +26,21 @@ pub fn put_block(
     let discards = ended.state.discards;
     match ended.finish {
         Finish::Passed => put_first_line(alloc, text, form.name, "passed ", successes, discards),
-        Finish::GaveUp => put_first_line(alloc, text, form.name, "gave up after ", successes, discards),
+        Finish::GaveUp => put_first_line(
+            alloc,
+            text,
+            form.name,
+            "gave up after ",
+            successes,
+            discards,
+        ),
         Finish::Failed {
             attempt,
             size,
             cause,
-        } => put_failed(alloc, text, form, seed, successes, discards, attempt, size, cause),
+        } => put_failed(
+            alloc, text, form, seed, successes, discards, attempt, size, cause,
+        ),
     }
 }
 
@@ -50,7 +59,14 @@ fn put_failed(
     requires { successes < 2 ^ 64 - 1 }
     ensures { OnOk result (text.new.items ≡ text.old.items ++ failed_block (form.now.name ∷ []) (drawn form.now seed) successes discards attempt size cause) }
 {
-    put_first_line(alloc, text, form.name, "failed after ", successes + 1, discards)?;
+    put_first_line(
+        alloc,
+        text,
+        form.name,
+        "failed after ",
+        successes + 1,
+        discards,
+    )?;
     let own = generator_of(seed, attempt);
     put_failure_lines(alloc, text, attempt, size, cause, form, own)
 }

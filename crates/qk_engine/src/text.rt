@@ -1,11 +1,12 @@
 //! The text of a run, piece by piece at the end of what is there.
 ghost use Rattle.std.specs.Prelude.{◌≡◌, ◌++◌, ◌∷◌, [], OnOk, decimal};
 ghost use Rattle.qk_engine.specs.Attempt.{chosen};
+ghost use Rattle.qk_engine.specs.Reply.{refusal};
 ghost use Rattle.qk_engine.specs.Report.{tests, named, counts_text, first_line, cause_text, cause_line, attempt_line, value_line, replay_line, failure_lines, last_line};
 
 use crate::attempting::draw;
 use crate::form::Form;
-use qk_base::{Bytes, Cause, Memory};
+use qk_base::{Bytes, Cause, Memory, Refusal};
 use qk_splitmix::Gen;
 use std::alloc::Global;
 
@@ -153,5 +154,15 @@ pub fn put_last_line(
     put_named(alloc, text, ", passed ", ended.0)?;
     put_named(alloc, text, ", failed ", ended.1)?;
     put_named(alloc, text, ", gave up ", ended.2)?;
+    put(text, "\n")
+}
+
+/// Adds the refusal of a file.
+pub fn put_refusal(alloc: Global, text: &mut Bytes, refused: Refusal) -> Result<(), Memory>
+    ensures { OnOk result (text.new.items ≡ text.old.items ++ refusal refused) }
+{
+    put_named(alloc, text, "refused ", refused.code as u64)?;
+    put_named(alloc, text, " at ", refused.place.line as u64)?;
+    put_named(alloc, text, ":", refused.place.column as u64)?;
     put(text, "\n")
 }

@@ -6,7 +6,9 @@ ghost use Rattle.qk_base.specs.declared.status.Status.{Status as Answer};
 ghost use Rattle.qk_engine.specs.Form.{IsForm};
 ghost use Rattle.qk_engine.specs.Reply.{Replies, Tells, IsReply, IsRun};
 ghost use Rattle.qk_engine.specs.Words.{file_named};
-ghost use Rattle.qk_engine.specs.declared.form.Form.{Form as Spelled};
+ghost use Rattle.qk_engine.specs.declared.form.Form.{Form as Plain};
+ghost use Rattle.qk_syntax.specs.PlainTrees.{PlainTrees};
+ghost use Rattle.qk_syntax.specs.Spelling.{Spells};
 
 use crate::made::Made;
 use crate::replying::{file_reply, usage_reply};
@@ -49,7 +51,7 @@ pub fn run<R: Threads + Sync, L: Library, K: Sink, G: Gate>(
     // Where nothing fails, there is a reply, or memory is wanted.
     ensures answers { ((name : List ℕ) → file_named (map string_bytes words.now) ≡ Some name → HasRisen (L.faults library.old name) (L.faults library.new name) → ⊥)
         → (HasRisen (K.faults sink.old) (K.faults sink.new) → ⊥) → IsReply result ⊎ (result ≡ Status.Memory) }
-    ensures completes { (name bytes : List ℕ) (form : Spelled) → file_named (map string_bytes words.now) ≡ Some name → L.holds library.old name ≡ Some bytes → IsForm bytes form
+    ensures completes { (name bytes : List ℕ) (trees : PlainTrees) (form : Plain) → file_named (map string_bytes words.now) ≡ Some name → L.holds library.old name ≡ Some bytes → Spells bytes trees → IsForm trees form
         → (HasRisen (L.faults library.old name) (L.faults library.new name) → ⊥) → (HasRisen (K.faults sink.old) (K.faults sink.new) → ⊥) → IsRun result ⊎ (result ≡ Status.Memory) }
 {
     match run_into(rt, alloc, words, library, gate) {

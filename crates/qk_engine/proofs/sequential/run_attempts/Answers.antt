@@ -27,7 +27,7 @@ returns-in-Fail-clause-run c =
     let running : stop_at c.args.limits c.loop-stop.state ≡ None = ap (λ (l : Limits). stop_at l c.loop-stop.state) (sym c.make-course.ensures) ∙ sym c.stop.ensures ∙ c.in_default.is in
     let is_size : c.size-size.result ≡ size_at c.args.limits c.loop-stop.state.successes c.loop-stop.state.recent = c.size-size.ensures.size ∙ ap (λ (l : Limits). size_at l c.loop-stop.state.successes c.loop-stop.state.recent) c.make-course.ensures in
     let is_outcome : c.attempt-outcome.result ≡ outcome c.args.form.now c.args.seed c.loop-stop.number c.size-size.result =
-      c.attempt-outcome.ensures ∙ ap (checked c.args.form.now) (drawn_is c.args.form.now c.args.seed c.loop-stop.number c.loop-stop.kept c.split-own.result.0 c.loop-stop.invariant.kept c.split-own.ensures.left) in
+    c.attempt-outcome.ensures ∙ ap (checked c.args.form.now) (drawn_is c.args.form.now c.args.seed c.loop-stop.number c.loop-stop.kept c.split-own.result.0 c.loop-stop.invariant.kept c.split-own.ensures.left) in
     let failed : cause_of c.attempt-outcome.result.verdict ≡ Some c.in-Fail.cause = ap (λ (o : Judged). cause_of o.verdict) (sym c.outcome.view_is) ∙ ap cause_of c.in-Fail.is in
     let ended = fails c.args.limits c.args.form.now c.args.seed c.loop-stop.state c.loop-stop.number c.size-size.result so_far.0 c.in-Fail.cause c.attempt-outcome.result _ running is_size is_outcome failed so_far.1 in
     record { finish = ended.0; state = ended.1 }
@@ -37,7 +37,7 @@ loop-stop-preserved c =
     let so_far = c.loop-stop.invariant.so_far in
     let running : stop_at c.args.limits c.loop-stop.state ≡ None = ap (λ (l : Limits). stop_at l c.loop-stop.state) (sym c.make-course.ensures) ∙ sym c.stop.ensures ∙ c.in_default.is in
     let is_outcome : c.attempt-outcome.result ≡ outcome c.args.form.now c.args.seed c.loop-stop.number c.size-size.result =
-      c.attempt-outcome.ensures ∙ ap (checked c.args.form.now) (drawn_is c.args.form.now c.args.seed c.loop-stop.number c.loop-stop.kept c.split-own.result.0 c.loop-stop.invariant.kept c.split-own.ensures.left) in
+    c.attempt-outcome.ensures ∙ ap (checked c.args.form.now) (drawn_is c.args.form.now c.args.seed c.loop-stop.number c.loop-stop.kept c.split-own.result.0 c.loop-stop.invariant.kept c.split-own.ensures.left) in
     let passed : DoesNotFail c.attempt-outcome.result = search rules in
     let next : c.step.new.state ≡ step_at c.loop-stop.state c.attempt-outcome.result = search rules in
     record {
@@ -45,6 +45,8 @@ loop-stop-preserved c =
       proper = subst (IsProper c.args.limits) (sym next) (step_proper c.args.limits c.loop-stop.state c.attempt-outcome.result c.loop-stop.invariant.proper running);
       rest = let less = subst (λ (s : Counts). rest_at c.args.limits s < rest_at c.args.limits c.loop-stop.state) (sym next) (rest_less c.args.limits c.loop-stop.state c.attempt-outcome.result running) in omega (arith, less, c.loop-stop.invariant.rest);
       kept = rights_next c.loop-stop.number _ c.loop-stop.kept c.split-own.result.1 c.loop-stop.invariant.kept c.split-own.ensures.right;
-      so_far = (so_far.0 ++ c.attempt-outcome.result ∷ [],
-        goes_on c.args.limits c.args.form.now c.args.seed c.loop-stop.state c.step.new.state c.loop-stop.number c.size-size.result so_far.0 c.attempt-outcome.result _ c.loop-stop.invariant.proper running is_outcome passed next so_far.1);
+      so_far = (
+        so_far.0 ++ c.attempt-outcome.result ∷ [],
+        goes_on c.args.limits c.args.form.now c.args.seed c.loop-stop.state c.step.new.state c.loop-stop.number c.size-size.result so_far.0 c.attempt-outcome.result _ c.loop-stop.invariant.proper running is_outcome passed next so_far.1,
+      );
     }
