@@ -1,4 +1,4 @@
-//! The layout in which each range takes every so manieth number.
+//! The layout in which the ranges take turns.
 ghost use Rattle.std.specs.Prelude.{◌≡◌, ◌<◌, ◌≤◌};
 
 use crate::layout::Layout;

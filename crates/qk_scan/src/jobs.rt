@@ -10,13 +10,16 @@ use std::marker::{Send, Sync};
 pub trait Jobs: Sync {
     type Answer: Send + Drop;
 
+    // The number of jobs.
     ghost total: { Self → ℕ };
 
+    // The answer of each job.
     ghost answer_at: { Self → ℕ → Self.Answer };
 
+    // Which answers hit.
     ghost hits: { Self → Self.Answer → Bool };
 
-    /// The number of jobs.
+    /// The number of jobs, at most 4,096.
     fn count(&self) -> u32
         ensures value { result ≡ total self.now }
         ensures most { result ≤ 4096 };

@@ -136,8 +136,8 @@ fn gather<R: Threads + Sync, J: Jobs, G: Gate, L: Layout>(
 }
 
 /// The answers of the jobs 0, 1 and so on, up to and including the first that hits, or of all jobs where none hits. The answer is
-/// the same for every number of workers and every interleaving of their steps. Each worker has a range of the numbers of its own, and
-/// claims from the others' once its own is dry.
+/// the same for every number of workers and every interleaving of their steps. As in QuickerCheck, each worker has numbers of its own
+/// and takes from the others once these are used up. Room for the answers is taken before the workers start.
 pub fn scan<R: Threads + Sync, J: Jobs, G: Gate>(
     rt: &R,
     alloc: Global,
