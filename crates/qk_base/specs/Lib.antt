@@ -1,3 +1,4 @@
+pub mod Different
 pub mod Faults
 pub mod Gains
 pub mod Growing
