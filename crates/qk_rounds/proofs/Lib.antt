@@ -1,0 +1,7 @@
+pub mod Dues
+pub mod Longer
+pub mod Placing
+pub mod Predicts
+pub mod RoundParts
+pub mod Steps
+pub mod Stored

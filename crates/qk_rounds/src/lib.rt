@@ -1,0 +1,19 @@
+//! Windows of attempts at guessed sizes, rounds of repair, and outcomes committed in order.
+#![tactic(auto)]
+
+mod due;
+mod fold;
+mod folded;
+mod known;
+mod repair;
+mod slots;
+mod store;
+mod trial;
+mod work;
+
+pub use known::Known;
+pub use qk_schedule::Finish;
+pub use repair::round;
+pub use slots::Slots;
+pub use trial::Trial;
+pub use work::Work;
