@@ -6,6 +6,7 @@ mod fold;
 mod folded;
 mod known;
 mod repair;
+mod settle;
 mod slots;
 mod store;
 mod trial;

@@ -49,4 +49,17 @@ impl Slots {
             Some(slot) => slot.as_ref(),
         }
     }
+
+    pub(crate) fn len(&self) -> usize
+        ensures { result ≡ length self.now }
+    {
+        self.slots.len()
+    }
+
+    pub(crate) fn as_slice(&self) -> &[Option<Known>]
+        ensures same { result.now ≡ self.now }
+        ensures few { length self.now ≤ 4096 }
+    {
+        self.slots.as_slice()
+    }
 }
