@@ -1,3 +1,5 @@
+pub mod CommitRun
+pub mod CommitStep
 pub mod Dues
 pub mod Longer
 pub mod Placing

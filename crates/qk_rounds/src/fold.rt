@@ -1,17 +1,28 @@
 //! The fold of a window: the sizes that are predicted for its slots.
 ghost use Rattle.std.specs.Prelude.{◌≡◌, ◌<◌, ◌≤◌, length, IfOk, All, None};
+ghost use Rattle.qk_base.specs.Judged.{cause_of};
 ghost use Rattle.qk_rounds.specs.Windows.{fold, fails, is_due, is_hit, guess, some_due};
 
 use crate::folded::Folded;
 use crate::known::Known;
-use qk_base::{Memory, Outcome, Seq, Verdict};
+use qk_base::{Cause, Memory, Outcome, Seq, Verdict};
 use qk_schedule::Course;
 use std::alloc::Global;
+
+/// Why an attempt failed, if it did.
+pub(crate) fn failure(outcome: &Outcome) -> Option<Cause>
+    ensures { result ≡ cause_of outcome.now.verdict }
+{
+    match outcome.verdict {
+        Verdict::Fail(cause) => Some(cause),
+        _ => None,
+    }
+}
 
 pub(crate) fn outcome_fails(outcome: &Outcome) -> bool
     ensures { result ≡ fails outcome.now }
 {
-    matches!(outcome.verdict, Verdict::Fail(_))
+    failure(outcome).is_some()
 }
 
 fn slot_is_due(slot: &Option<Known>, size: u32) -> bool

@@ -1,6 +1,7 @@
 //! Windows of attempts at guessed sizes, rounds of repair, and outcomes committed in order.
 #![tactic(auto)]
 
+mod commit;
 mod due;
 mod fold;
 mod folded;
