@@ -1,5 +1,6 @@
 pub mod CommitRun
 pub mod CommitStep
+pub mod Driving
 pub mod Dues
 pub mod Longer
 pub mod Placing

@@ -1,4 +1,5 @@
 pub mod Commit
+pub mod Drive
 pub mod Due
 pub mod Placed
 pub mod Round

@@ -2,6 +2,7 @@
 #![tactic(auto)]
 
 mod commit;
+mod drive;
 mod due;
 mod fold;
 mod folded;

@@ -1,11 +1,12 @@
 //! A window, repaired until none of its slots is due.
-ghost use Rattle.std.specs.Prelude.{◌≡◌, ℕ, ◌+◌, ◌*◌, ◌^◌, ◌<◌, ◌≤◌, length, IfOk, None};
+ghost use Rattle.std.specs.Prelude.{◌≡◌, ℕ, ◌+◌, ◌*◌, ◌^◌, ◌<◌, ◌≤◌, length, take, IfOk, None};
 ghost use Rattle.qk_schedule.specs.Course.{TakesAll};
 ghost use Rattle.qk_rounds.specs.Trial.{Includes};
 ghost use Rattle.qk_rounds.specs.Round.{Knows};
 ghost use Rattle.qk_rounds.specs.Window.{IsSettled, IsWindow};
 
 use crate::fold::fold_slots;
+use crate::known::Known;
 use crate::repair::round;
 use crate::slots::Slots;
 use crate::trial::Trial;
@@ -59,6 +60,18 @@ pub(crate) struct Window {
     pub(crate) slots: Slots,
     pub(crate) count: usize,
     pub(crate) work: Work,
+    ghost within: { count ≤ length slots },
+}
+
+impl Window {
+    /// The slots of its fold.
+    pub(crate) fn folded(&self) -> &[Option<Known>]
+        ensures slots { result.now ≡ take self.now.count self.now.slots }
+        ensures few { length result.now ≤ 4096 }
+    {
+        let (folded, _) = self.slots.as_slice().split_at(self.count);
+        folded
+    }
 }
 
 /// The window from attempt `from` on, begun and settled. The first `count` of its slots are folded.
