@@ -2,6 +2,7 @@ pub mod CommitRun
 pub mod CommitStep
 pub mod Driving
 pub mod Dues
+pub mod Examples
 pub mod Longer
 pub mod Placing
 pub mod Predicts

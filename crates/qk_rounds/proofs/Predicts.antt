@@ -1,12 +1,10 @@
 -- How plans predict a run, and what follows at a slot that is kept.
-use Rattle.std.proofs.Common.{◌≡◌, ℕ, zero, suc, ◌+◌, ◌<◌, ◌≤◌, ◌==◌, Bool, true, false, not, ◌||◌, ◌&&◌, is_some, Option, Some, None, List, [], ◌∷◌, ◌++◌, length, refl, sym, ◌∙◌, ap, subst, arith}
+use Rattle.std.proofs.Common.{◌≡◌, ℕ, ◌<◌, ◌==◌, Bool, true, false, ◌||◌, Some, None, List, ◌∷◌, refl, sym, ◌∙◌, ap, subst}
 use Rattle.qk_base.specs.Judged.{Judged, DoesNotFail, passes, cause_of}
 use Rattle.qk_schedule.specs.Course.{Rules, Plans, Lawful, TakesAll}
-use Rattle.qk_scan.specs.Prefix.{prefix_to_hit}
 use Rattle.qk_rounds.specs.declared.known.Known.{Known}
 use Rattle.qk_rounds.specs.declared.folded.Folded.{Folded}
-use Rattle.qk_rounds.specs.Windows.{Slot, fold, is_due, is_hit, guess, fails, some_due, stored, due_outcomes, answers_of, repair, exact}
-use Rattle.qk_rounds.specs.Round.{Knows}
+use Rattle.qk_rounds.specs.Windows.{Slot, fold, is_due, is_hit, guess, fails}
 use Rattle.qk_schedule.proofs.SequentialRun.{RestFalls, size_is_small, lawful_falls}
 use Rattle.qk_rounds.proofs.Steps.{fold-goes_on, none_of, sizes_equal, or_left, or_right, and_right, not_false}
 
@@ -15,16 +13,16 @@ pub record Predicts {S P : Type 0} (rules : Rules S) (plans : Plans S P) (outcom
   pub run : RestFalls rules outcome proper
   pub sizes : (s : S) → proper s → rules.stop s ≡ None → rules.size s ≡ plans.size (plans.plan s)
   pub steps : (s : S) (k : ℕ) → proper s → rules.stop s ≡ None → DoesNotFail (outcome k (rules.size s))
-    → plans.plan (rules.step s (outcome k (rules.size s))) ≡ plans.step (plans.plan s) (passes (outcome k (rules.size s)))
+      → plans.plan (rules.step s (outcome k (rules.size s))) ≡ plans.step (plans.plan s) (passes (outcome k (rules.size s)))
   pub running : (s : S) → proper s → plans.ends (plans.plan s) ≡ false → rules.stop s ≡ None
 
 pub lawful_predicts : {S P : Type 0} (rules : Rules S) (plans : Plans S P) (takes : Judged → Type 0) (proper : S → Type 0) (goes_on : P → Type 0)
-  → Lawful rules plans takes proper goes_on → (outcome : ℕ → ℕ → Judged) → TakesAll takes outcome → Predicts rules plans outcome proper
+    → Lawful rules plans takes proper goes_on → (outcome : ℕ → ℕ → Judged) → TakesAll takes outcome → Predicts rules plans outcome proper
 lawful_predicts rules plans takes proper goes_on laws outcome taken = record {
   run = lawful_falls rules plans takes proper goes_on laws outcome taken;
   sizes = laws.sizes_agree;
   steps = λ s k ok e passed. laws.steps_agree s (outcome k (rules.size s)) ok e
-    (taken k (rules.size s) (size_is_small rules plans takes proper goes_on laws s ok e) passed);
+      (taken k (rules.size s) (size_is_small rules plans takes proper goes_on laws s ok e) passed);
   running = laws.runs_until_plan_ends;
 }
 
@@ -37,8 +35,8 @@ pub record Leads {S P : Type 0} (rules : Rules S) (plans : Plans S P) (proper : 
   pub open_next : plans.ends (plans.step (plans.plan s) (guess (Some k))) ≡ false → rules.stop (rules.step s k.outcome) ≡ None
 
 pub leads : {S P : Type 0} (rules : Rules S) (plans : Plans S P) (outcome : ℕ → ℕ → Judged) (proper : S → Type 0) → Predicts rules plans outcome proper
-  → (s : S) (n : ℕ) (k : Known) → proper s → rules.stop s ≡ None → k.outcome ≡ outcome n k.size → k.size ≡ rules.size s → fails k.outcome ≡ false
-  → Leads rules plans proper s k
+    → (s : S) (n : ℕ) (k : Known) → proper s → rules.stop s ≡ None → k.outcome ≡ outcome n k.size → k.size ≡ rules.size s → fails k.outcome ≡ false
+    → Leads rules plans proper s k
 leads rules plans outcome proper laws s n k ok e known size f =
     let is : k.outcome ≡ outcome n (rules.size s) = known ∙ ap (outcome n) size in
     let passed : DoesNotFail k.outcome = none_of (cause_of k.outcome.verdict) f in
@@ -71,10 +69,10 @@ pub record Kept {S P : Type 0} (rules : Rules S) (plans : Plans S P) (outcome : 
   pub folded : fold plans (plans.plan s) (Some k ∷ slots) ≡ record { size = k.size; due = false } ∷ fold plans (plans.plan (rules.step s k.outcome)) slots
 
 pub kept_goes_on : {S P : Type 0} (rules : Rules S) (plans : Plans S P) (outcome : ℕ → ℕ → Judged) (proper : S → Type 0) → Predicts rules plans outcome proper
-  → (k : Known) (slots : List Slot) (s : S) (n : ℕ) → proper s → rules.stop s ≡ None → k.outcome ≡ outcome n k.size
-  → is_due (Some k) (plans.size (plans.plan s)) ≡ false
-  → (is_hit (Some k) (plans.size (plans.plan s)) || plans.ends (plans.step (plans.plan s) (guess (Some k)))) ≡ false
-  → Kept rules plans outcome proper s n k slots
+    → (k : Known) (slots : List Slot) (s : S) (n : ℕ) → proper s → rules.stop s ≡ None → k.outcome ≡ outcome n k.size
+    → is_due (Some k) (plans.size (plans.plan s)) ≡ false
+    → (is_hit (Some k) (plans.size (plans.plan s)) || plans.ends (plans.step (plans.plan s) (guess (Some k)))) ≡ false
+    → Kept rules plans outcome proper s n k slots
 kept_goes_on rules plans outcome proper laws k slots s n ok e known kept h =
     let p = plans.plan s in
     let z = plans.size p in
@@ -95,6 +93,6 @@ kept_goes_on rules plans outcome proper laws k slots s n ok e known kept h =
       falls = next.falls;
       open_next = next.open_next goes;
       folded = fold-goes_on plans p (Some k) slots h
-        ∙ (ap (λ (f : Folded). f ∷ fold plans (plans.step p (guess (Some k))) slots) is_first
-        ∙ ap (λ q. first' ∷ fold plans q slots) (sym next.planned));
+          ∙ (ap (λ (f : Folded). f ∷ fold plans (plans.step p (guess (Some k))) slots) is_first
+          ∙ ap (λ q. first' ∷ fold plans q slots) (sym next.planned));
     }

@@ -1,8 +1,8 @@
 pub mod Commit
-pub mod Drive
 pub mod Due
 pub mod Placed
 pub mod Round
+pub mod Run
 pub mod Trial
 pub mod Window
 pub mod Windows

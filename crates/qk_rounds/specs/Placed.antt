@@ -1,5 +1,5 @@
 -- Answers put into their slots.
-use Rattle.std.specs.Prelude.{ℕ, Some, List, [], ◌∷◌, slice_set}
+use Rattle.std.specs.Prelude.{Some, List, [], ◌∷◌, slice_set}
 use Rattle.qk_base.specs.Judged.{Judged}
 use Rattle.qk_rounds.specs.declared.due.Due.{Due}
 use Rattle.qk_rounds.specs.Windows.{Slot}

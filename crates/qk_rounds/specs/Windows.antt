@@ -59,12 +59,12 @@ abbrev pub stored : List Folded → List Judged → List Slot → List Slot
 stored [] answers slots = slots
 stored (f ∷ fs) answers [] = []
 stored (f ∷ fs) answers (slot ∷ slots) = elim f.due [
-    false ↦ slot ∷ stored fs answers slots
+  | false ↦ slot ∷ stored fs answers slots
   | true ↦ elim answers [
-      [] ↦ slot ∷ slots
+    | [] ↦ slot ∷ slots
     | answer ∷ more ↦ Some (record { size = f.size; outcome = answer }) ∷ stored fs more slots
-    ]
   ]
+]
 
 -- one round
 abbrev pub repair : {S P : Type 0} → Plans S P → (ℕ → ℕ → Judged) → P → ℕ → List Slot → List Slot
@@ -76,11 +76,11 @@ repair plans outcome plan n slots =
 abbrev pub exact : {S : Type 0} → Rules S → S → List Slot → ℕ
 exact rules state [] = 0
 exact rules state (slot ∷ slots) = elim (rules.stop state) [
-    Some why ↦ 0
+  | Some why ↦ 0
   | None ↦ elim slot [
-      None ↦ 0
+    | None ↦ 0
     | Some known ↦ (if known.size == rules.size state
         then (if fails known.outcome then 1 else suc (exact rules (rules.step state known.outcome) slots))
         else 0)
-    ]
   ]
+]

@@ -18,9 +18,9 @@ settled_by plans outcome zero plan n slots work = record { slots = slots; work =
 settled_by plans outcome (suc fuel) plan n slots work =
     let folded = fold plans plan slots in
     elim (some_due folded) [
-      false ↦ record { slots = slots; work = work }
-    | true ↦ settled_by plans outcome fuel plan n (repair plans outcome plan n slots)
-        (record { windows = work.windows; rounds = work.rounds + 1; trials = work.trials + length (answers_of outcome n folded) })
+      | false ↦ record { slots = slots; work = work }
+      | true ↦ settled_by plans outcome fuel plan n (repair plans outcome plan n slots)
+          (record { windows = work.windows; rounds = work.rounds + 1; trials = work.trials + length (answers_of outcome n folded) })
     ]
 
 -- where a run stands after some committed slots: the state, the next attempt, what was committed, and how it ended, if it has
@@ -34,18 +34,18 @@ pub record Committed (S : Type 0) : Type 0 where
 abbrev pub committed : {S : Type 0} → Rules S → List Slot → S → ℕ → List Judged → Committed S
 committed rules [] state n done = record { state = state; next = n; done = done; finish = None }
 committed rules (slot ∷ slots) state n done = elim slot [
-    None ↦ record { state = state; next = n; done = done; finish = None }
+  | None ↦ record { state = state; next = n; done = done; finish = None }
   | Some known ↦ elim (cause_of known.outcome.verdict) [
-      Some cause ↦ record { state = state; next = n; done = done; finish = Some (Failed n known.size cause) }
+    | Some cause ↦ record { state = state; next = n; done = done; finish = Some (Failed n known.size cause) }
     | None ↦ committed rules slots (rules.step state known.outcome) (n + 1) (done ++ known.outcome ∷ [])
-    ]
   ]
+]
 
 -- a window of unknown slots from attempt n on, after its rounds
 abbrev pub window_of : {S P : Type 0} → Plans S P → (ℕ → ℕ → Judged) → ℕ → S → ℕ → Work → Settled
 window_of plans outcome window state n work =
     settled_by plans outcome window (plans.plan state) n (replicate window None)
-      (record { windows = work.windows + 1; rounds = work.rounds; trials = work.trials })
+    (record { windows = work.windows + 1; rounds = work.rounds; trials = work.trials })
 
 -- what that window commits, after what was done before
 abbrev pub commit_of : {S P : Type 0} → Rules S → Plans S P → (ℕ → ℕ → Judged) → ℕ → S → ℕ → Work → List Judged → Committed S
@@ -56,15 +56,15 @@ commit_of rules plans outcome window state n work done =
 abbrev pub work_by : {S P : Type 0} → Rules S → Plans S P → (ℕ → ℕ → Judged) → ℕ → ℕ → S → ℕ → Work → Work
 work_by rules plans outcome window zero state n work = work
 work_by rules plans outcome window (suc fuel) state n work = elim (rules.stop state) [
-    Some why ↦ work
+  | Some why ↦ work
   | None ↦
       let after = (window_of plans outcome window state n work).work in
       let commit = commit_of rules plans outcome window state n work [] in
       elim commit.finish [
-        Some finish ↦ after
-      | None ↦ work_by rules plans outcome window fuel commit.state commit.next after
+        | Some finish ↦ after
+        | None ↦ work_by rules plans outcome window fuel commit.state commit.next after
       ]
-  ]
+]
 
 -- the work of the whole run
 abbrev pub work_of : {S P : Type 0} → Rules S → Plans S P → (ℕ → ℕ → Judged) → ℕ → Work

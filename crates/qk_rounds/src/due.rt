@@ -65,7 +65,8 @@ impl<'a, T: Trial> Jobs for DueTrials<'a, T> {
 
     fn perform(&self, alloc: Global, index: u32) -> Result<Outcome, Memory> {
         let due = self.due[index as usize];
-        self.trial.perform(alloc, self.from + due.index as u64, due.size)
+        self.trial
+            .perform(alloc, self.from + due.index as u64, due.size)
     }
 
     fn hit(&self, outcome: &Outcome) -> bool {

@@ -2,12 +2,12 @@
 #![tactic(auto)]
 
 mod commit;
-mod drive;
 mod due;
 mod fold;
 mod folded;
 mod known;
 mod repair;
+mod run;
 mod settle;
 mod slots;
 mod store;
@@ -17,6 +17,7 @@ mod work;
 pub use known::Known;
 pub use qk_schedule::Finish;
 pub use repair::round;
+pub use run::{Ended, drive};
 pub use slots::Slots;
 pub use trial::Trial;
 pub use work::Work;

@@ -103,7 +103,9 @@ pub(crate) fn settled_window<R: Threads + Sync, C: Course, T: Trial, G: Gate>(
         trials: before.trials,
     };
     let mut slots = Slots::make(alloc, window)?;
-    let work = settle(rt, alloc, gate, course, trial, state, from, &mut slots, workers, begun)?;
+    let work = settle(
+        rt, alloc, gate, course, trial, state, from, &mut slots, workers, begun,
+    )?;
     let count = fold_slots(alloc, course, state, slots.as_slice())?.len();
     Ok(Window { slots, count, work })
 }

@@ -1,4 +1,4 @@
-use Rattle.std.proofs.Common.{◌≡◌, ℕ, ◌+◌, drop, List, ◌↔◌}
+use Rattle.std.proofs.Common.{◌≡◌, ◌+◌, drop, List, ◌↔◌}
 use Rattle.qk_base.specs.Judged.{Judged}
 use Rattle.qk_rounds.specs.Work.{committed}
 use Rattle.qk_rounds.specs.Commit.{Committable}
@@ -13,5 +13,5 @@ invariant-loop-i g l =
       taking : (other : Judged) → g.K.Tally.takes l.tally other ↔ g.K.Tally.takes l.fn.tally other;
       same_made : g.K.Tally.made l.tally ≡ g.K.Tally.made l.fn.tally;
       told : (done : List Judged) → (now : List Judged) × (g.K.Tally.stands_for l.fn.tally done → g.K.Tally.stands_for l.tally now)
-        × (committed rules (drop l.i l.slots) l.state (l.from + l.i) now ≡ committed rules l.slots l.fn.state l.from done);
+          × (committed rules (drop l.i l.slots) l.state (l.from + l.i) now ≡ committed rules l.slots l.fn.state l.from done);
     }

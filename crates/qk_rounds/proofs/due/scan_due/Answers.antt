@@ -1,8 +1,5 @@
-use Rattle.std.proofs.Common.{◌≡◌, List, ◌∙◌, ap, map}
 use Rattle.qk_base.specs.Judged.{Judged}
-use Rattle.qk_scan.specs.Prefix.{prefix_to_hit}
 use Rattle.qk_rounds.specs.Due.{due_outcome}
-use Rattle.qk_rounds.specs.Windows.{fails}
 use Rattle.qk_rounds.specs.declared.due.Due.{Due}
 use Rattle.qk_rounds.proofs.Dues.{answers_from-list}
 use Rattle.qk_rounds.proofs.due.scan_due.Goals as goal

@@ -1,9 +1,6 @@
-use Rattle.std.proofs.Common.{rules, ◌≡◌, ℕ, ◌+◌, ◌^◌, ◌<◌, ◌≤◌, length, List, map, sym, ◌∙◌, ap, arith}
-use Rattle.qk_base.specs.Judged.{Judged}
-use Rattle.qk_scan.specs.Prefix.{prefix_to_hit}
-use Rattle.qk_rounds.specs.declared.due.Due.{Due}
-use Rattle.qk_rounds.specs.Due.{due_at, due_outcome}
-use Rattle.qk_rounds.specs.Windows.{fails, answers_of}
+use Rattle.std.proofs.Common.{rules, ◌≡◌, ◌≤◌, length, sym, ◌∙◌, ap, arith}
+use Rattle.qk_rounds.specs.Due.{due_at}
+use Rattle.qk_rounds.specs.Windows.{answers_of}
 use Rattle.qk_rounds.proofs.Dues.{few_due, due_ready, due_within}
 use Rattle.qk_rounds.proofs.RoundParts.{found, few_found, is_stored}
 use Rattle.qk_rounds.proofs.Stored.{length-answers}
@@ -25,7 +22,7 @@ overflow_cast-count g c =
     let outcome = g.T.Trial.outcome c.args.trial.now in
     let is : c.as_slice.result.now ≡ due_at 0 c.args.folded.now = c.as_slice.ensures ∙ c.in_ok-due.ensures in
     let are : c.in_ok-answers.answers.items ≡ answers_of outcome c.args.from c.args.folded.now
-      = found outcome c.args.from c.args.folded.now c.as_slice.result.now c.in_ok-answers.answers.items is c.in_ok-answers.ensures in
+    = found outcome c.args.from c.args.folded.now c.as_slice.result.now c.in_ok-answers.answers.items is c.in_ok-answers.ensures in
     let same : c.len-count.result ≡ length (answers_of outcome c.args.from c.args.folded.now) = c.len-count.ensures ∙ ap length are in
     let most = length-answers outcome c.args.from c.args.folded.now in
     let small : c.len-count.result ≤ 4096 = omega (arith, same, most, c.requires.within, c.requires.few) in
@@ -48,7 +45,7 @@ returns-clause-stores g c =
     let is : c.as_slice.result.now ≡ due_at 0 c.args.folded.now = c.as_slice.ensures ∙ c.in_ok-due.ensures in
     let is' : c.as_slice-2.result.now ≡ due_at 0 c.args.folded.now = c.as_slice-2.ensures ∙ c.in_ok-due.ensures in
     let are : c.in_ok-answers.answers.items ≡ answers_of outcome c.args.from c.args.folded.now
-      = found outcome c.args.from c.args.folded.now c.as_slice.result.now c.in_ok-answers.answers.items is c.in_ok-answers.ensures in
+    = found outcome c.args.from c.args.folded.now c.as_slice.result.now c.in_ok-answers.answers.items is c.in_ok-answers.ensures in
     is_stored outcome c.args.from c.args.folded.now c.as_slice-2.result.now c.in_ok-answers.answers.items c.args.slots.now c.store.new.slots is' are c.requires.within c.store.ensures
 
 pub returns-clause-count : goal.returns-clause-count

@@ -1,4 +1,4 @@
-use Rattle.std.proofs.Common.{◌≡◌, ℕ, ◌+◌, ◌-◌, ◌*◌, ◌≤◌, length}
+use Rattle.std.proofs.Common.{◌≡◌, ◌+◌, ◌-◌, ◌*◌, ◌≤◌, length}
 use Rattle.qk_rounds.specs.Windows.{exact}
 use Rattle.qk_rounds.specs.Work.{settled_by}
 use Rattle.qk_rounds.specs.Round.{Knows}

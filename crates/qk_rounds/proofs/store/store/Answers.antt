@@ -1,4 +1,4 @@
-use Rattle.std.proofs.Common.{rules, ◌≡◌, ◌≤◌, length, List, [], ◌∷◌, ◌++◌, sym, ◌∙◌, ap, arith, length-append, length-set}
+use Rattle.std.proofs.Common.{◌≡◌, ◌≤◌, length, List, [], ◌∷◌, ◌++◌, sym, ◌∙◌, ap, arith, length-append, length-set}
 use Rattle.qk_base.specs.Judged.{Judged}
 use Rattle.qk_rounds.specs.Placed.{placed}
 use Rattle.qk_rounds.specs.Windows.{Slot}

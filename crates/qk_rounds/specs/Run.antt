@@ -1,5 +1,5 @@
 -- What a run by windows comes to.
-use Rattle.std.specs.Prelude.{◌≡◌, ℕ, ◌+◌, List, length}
+use Rattle.std.specs.Prelude.{◌≡◌, ℕ, ◌+◌, length}
 use Rattle.qk_schedule.specs.declared.finish.Finish.{Finish}
 use Rattle.qk_schedule.specs.declared.finish.Finish.TheVariants.{Passed, GaveUp, Failed}
 use Rattle.qk_schedule.specs.Sequential.{Run}

@@ -3,7 +3,7 @@ ghost use Rattle.std.specs.Prelude.{◌≡◌, ℕ, ◌*◌, ◌<◌, ◌≤◌,
 ghost use Rattle.qk_schedule.specs.Course.{TakesAll};
 ghost use Rattle.qk_schedule.specs.Sequential.{sequential, finish_of};
 ghost use Rattle.qk_rounds.specs.Commit.{StandsForPrefix};
-ghost use Rattle.qk_rounds.specs.Drive.{IsRun, attempts};
+ghost use Rattle.qk_rounds.specs.Run.{IsRun, attempts};
 ghost use Rattle.qk_rounds.specs.Work.{work_of};
 
 use crate::commit::commit;
@@ -35,7 +35,6 @@ fn ended_by(stop: Stop) -> Finish
 /// Runs attempts until the course stops or one fails. Each window's attempts run at guessed sizes on many workers, are repaired
 /// until every guess was right, and are committed in order, so that state, finish and committed outcomes are those of the
 /// sequential run, whatever the window and the number of workers. The work depends on the window alone.
-#[tactic(none)]
 pub fn drive<R: Threads + Sync, C: Course, T: Trial, K: Tally, G: Gate>(
     rt: &R,
     alloc: Global,
@@ -69,7 +68,11 @@ pub fn drive<R: Threads + Sync, C: Course, T: Trial, K: Tally, G: Gate>(
     loop {
         if let Some(stop) = course.stop(&state) {
             let finish = ended_by(stop);
-            return Ok(Ended { state, finish, work });
+            return Ok(Ended {
+                state,
+                finish,
+                work,
+            });
         }
         trial.prepare(alloc, number, window)?;
         let settled = settled_window(
@@ -78,7 +81,11 @@ pub fn drive<R: Threads + Sync, C: Course, T: Trial, K: Tally, G: Gate>(
         work = settled.work;
         let end = commit(course, &mut state, tally, settled.folded(), number)?;
         if let Some(finish) = end.finish {
-            return Ok(Ended { state, finish, work });
+            return Ok(Ended {
+                state,
+                finish,
+                work,
+            });
         }
         number = end.next;
     }
