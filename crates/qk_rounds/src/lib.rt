@@ -12,6 +12,8 @@ mod settle;
 mod slots;
 mod store;
 mod trial;
+#[cfg(test)]
+mod tests;
 mod work;
 
 pub use known::Known;
