@@ -4,7 +4,8 @@ pub mod Gains
 pub mod Growing
 pub mod Judged
 pub mod Lending
-pub mod MemFile
-pub mod MemLibrary
+pub mod Places
+pub mod Sheet
+pub mod Shelf
 pub mod Status
 pub mod formers

@@ -18,6 +18,8 @@ mod seq;
 mod sink;
 mod status;
 mod tally;
+#[cfg(test)]
+mod tests;
 
 pub use bytes::Bytes;
 pub use family::Family;

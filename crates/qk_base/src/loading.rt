@@ -3,8 +3,8 @@ ghost use Rattle.qk_base.specs.Faults.{HasRisen};
 
 use crate::bytes::Bytes;
 use crate::fault::{Failed, Memory};
-use crate::status::Status;
 use crate::library::Library;
+use crate::status::Status;
 use std::alloc::Global;
 
 #[derive(Clone, Copy, Debug, PartialEq, Eq)]

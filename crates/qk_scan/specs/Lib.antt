@@ -1,2 +1,5 @@
+pub mod Crew
+pub mod Each
 pub mod Prefix
-pub mod Share
+pub mod Slots
+pub mod Work

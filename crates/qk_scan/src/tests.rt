@@ -1,8 +1,11 @@
 //! Scans by many workers.
-ghost use Rattle.std.specs.Prelude.{◌≡◌, ◌≤◌, nat_eq, true, cond};
+ghost use Rattle.std.specs.Prelude.{◌≡◌, ◌+◌, ◌<◌, ◌≤◌, nat_eq, true, cond, length, All, IfOk};
+ghost use Rattle.qk_board.specs.Views.{IsEmptyView};
+ghost use Rattle.qk_board.specs.Seats.{view_of, IsSeatOf};
 
-use crate::{Jobs, scan};
-use qk_base::{MeetGate, Memory, OpenGate};
+use crate::{Jobs, scan, work};
+use qk_base::{MeetGate, Memory, OpenGate, OrderGate, Seq};
+use qk_board::{Board, BoardSeat, Closed, Layout, Strides};
 use std::alloc::Global;
 use std::test::Fail;
 
@@ -75,5 +78,91 @@ fn two_workers_meet(rt: HostRuntime) -> Result<(), Fail> {
     };
     assert_eq!(rt; found.as_slice(), [0, 1].as_slice());
     assert!(rt; gate.met());
+    Ok(())
+}
+
+#[test]
+fn forced_orders(rt: HostRuntime) -> Result<(), Fail> {
+    let alloc = rt.alloc();
+    let mut order = Seq::make(alloc);
+    if order.append(&[3, 2, 1, 0]).is_err() {
+        panic!(rt; "memory")
+    }
+    let gate = OrderGate::make(order, 1_000_000);
+    let jobs = Numbers {
+        count: 4,
+        hits: (1, 3),
+    };
+    let Ok(found) = scan(&rt, alloc, &gate, &jobs, 4) else {
+        panic!(rt; "memory")
+    };
+    assert_eq!(rt; found.as_slice(), [0, 1].as_slice());
+
+    let mut order = Seq::make(alloc);
+    if order.append(&[1, 3, 5, 2, 4, 0]).is_err() {
+        panic!(rt; "memory")
+    }
+    let gate = OrderGate::make(order, 200_000_000);
+    let jobs = Numbers {
+        count: 6,
+        hits: (NEVER, NEVER),
+    };
+    let Ok(found) = scan(&rt, alloc, &gate, &jobs, 2) else {
+        panic!(rt; "memory")
+    };
+    assert_eq!(rt; found.as_slice(), [0, 1, 2, 3, 4, 5].as_slice());
+    assert!(rt; gate.kept());
+    Ok(())
+}
+
+fn only_seat<L: Layout>(board: &Board<L>, mut seats: Seq<BoardSeat>) -> BoardSeat
+    requires one { length seats.items ≡ 1 }
+    requires seats { All (λ s. IsSeatOf board.now.table.shared.table_id (L.limit_of board.now.layout) (L.lengths_of board.now.layout) s × IsEmptyView (view_of s)) seats.items }
+    ensures { IsSeatOf board.now.table.shared.table_id (L.limit_of board.now.layout) (L.lengths_of board.now.layout) result × IsEmptyView (view_of result) }
+{
+    let _ = board;
+    let Some(seat) = seats.pop() else {
+        unreachable!()
+    };
+    seat
+}
+
+fn seats_of<L: Layout>(
+    alloc: Global,
+    board: &Board<L>,
+    seat: BoardSeat,
+) -> Result<Seq<BoardSeat>, Memory>
+    requires { IsSeatOf board.now.table.shared.table_id (L.limit_of board.now.layout) (L.lengths_of board.now.layout) seat }
+    ensures { IfOk result (λ v. (length v.items ≡ 1) × All (IsSeatOf board.now.table.shared.table_id (L.limit_of board.now.layout) (L.lengths_of board.now.layout)) v.items) }
+{
+    let _ = board;
+    let mut seats = Seq::make(alloc);
+    seats.add(seat)?;
+    Ok(seats)
+}
+
+#[test]
+fn one_worker(rt: HostRuntime) -> Result<(), Fail> {
+    let alloc = rt.alloc();
+    let jobs = Numbers {
+        count: 4,
+        hits: (1, 3),
+    };
+    let Ok((board, seats)) = Board::make(alloc, Strides::make(4, 2), 1) else {
+        panic!(rt; "memory")
+    };
+    let mut seat = only_seat(&board, seats);
+    let mut found = Seq::make(alloc);
+    if work(alloc, &OpenGate, &jobs, &board, &mut seat, 0, &mut found).is_err() {
+        panic!(rt; "memory")
+    }
+    assert_eq!(rt; found.len(), 3);
+    for (each, number) in found.as_slice().iter().zip([0, 2, 1].iter()) {
+        assert_eq!(rt; (each.number, each.answer), (*number, *number));
+    }
+    let Ok(back) = seats_of(alloc, &board, seat) else {
+        panic!(rt; "memory")
+    };
+    assert_eq!(rt; board.close(back), Closed { bound: 1, dry: 3 });
     Ok(())
 }

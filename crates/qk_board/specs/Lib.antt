@@ -1,0 +1,10 @@
+pub mod BlocksLaw
+pub mod DryBits
+pub mod Flags
+pub mod Layouts
+pub mod Rule
+pub mod Seats
+pub mod Steps
+pub mod StridesLaw
+pub mod Tables
+pub mod Views

@@ -1,0 +1,4 @@
+pub mod Attempts
+pub mod Counting
+pub mod Replies
+pub mod Texts

@@ -1,0 +1,4 @@
+pub mod Made
+pub mod Odd
+pub mod Picks
+pub mod Worked

@@ -1,0 +1,4 @@
+pub mod AttemptLaws
+pub mod Attempts
+pub mod Picking
+pub mod SplitMix

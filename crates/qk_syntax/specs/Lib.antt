@@ -1,0 +1,12 @@
+pub mod Canonical
+pub mod Cursors
+pub mod Places
+pub mod PlainTrees
+pub mod Spelling
+pub mod Stacks
+pub mod TextFault
+pub mod Tokens
+pub mod Words
+pub mod Reader
+pub mod Refusals
+pub mod View

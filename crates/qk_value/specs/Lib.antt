@@ -1,0 +1,9 @@
+pub mod Code
+pub mod Data
+pub mod Kinds
+pub mod Measures
+pub mod Order
+pub mod Printed
+pub mod Types
+pub mod Typing
+pub mod View

@@ -1,0 +1,1 @@
+//! One test of each adapter.
