@@ -1,0 +1,12 @@
+pub mod CommitRun
+pub mod CommitStep
+pub mod Driving
+pub mod Dues
+pub mod Examples
+pub mod Longer
+pub mod Placing
+pub mod Predicts
+pub mod RoundParts
+pub mod Settling
+pub mod Steps
+pub mod Stored
