@@ -2,6 +2,7 @@
 ghost use Rattle.std.specs.Prelude.{◌≡◌, ℕ, ◌<◌, ◌^◌, ◌≤◌, List, Bool, IfOk, All, length, slice_get, Some};
 
 use crate::fault::Memory;
+use std::alloc::Global;
 
 /// The points that a shrink goes through: each has candidates, in order, and fails or does not.
 pub trait Family: Sync {
@@ -24,7 +25,7 @@ pub trait Family: Sync {
     ghost listed: { Self → Self.Spread → List Self.Point };
 
     /// Prepares the candidates of a point.
-    fn spread(&self, point: &Self::Point) -> Result<Self::Spread, Memory>
+    fn spread(&self, alloc: Global, point: &Self::Point) -> Result<Self::Spread, Memory>
         requires { owns self.now point.now }
         ensures { IfOk result (λ spread. listed self.now spread ≡ children self.now point.now) };
 
@@ -34,12 +35,12 @@ pub trait Family: Sync {
         ensures bounded { result ≤ 2 ^ 40 };
 
     /// Candidate `k`, counted from 0.
-    fn child(&self, spread: &Self::Spread, k: u64) -> Result<Self::Point, Memory>
+    fn child(&self, alloc: Global, spread: &Self::Spread, k: u64) -> Result<Self::Point, Memory>
         requires { k < length (listed self.now spread.now) }
         ensures { IfOk result (λ point. slice_get (listed self.now spread.now) k ≡ Some point) };
 
     /// Whether the point fails.
-    fn fails(&self, point: &Self::Point) -> Result<bool, Memory>
+    fn fails(&self, alloc: Global, point: &Self::Point) -> Result<bool, Memory>
         requires { owns self.now point.now }
         ensures { IfOk result (λ fails. fails ≡ failing self.now point.now) };
 

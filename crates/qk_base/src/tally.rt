@@ -4,6 +4,7 @@ ghost use Rattle.qk_base.specs.Judged.{Judged};
 
 use crate::fault::Memory;
 use crate::outcome::Outcome;
+use std::alloc::Global;
 
 /// What collects committed outcomes, one after another.
 pub trait Tally {
@@ -20,7 +21,7 @@ pub trait Tally {
     ghost made: { Self → Self.Made };
 
     /// Adds one outcome. After want of memory the tally stands for what it stood for.
-    fn add(&mut self, outcome: &Outcome) -> Result<(), Memory>
+    fn add(&mut self, alloc: Global, outcome: &Outcome) -> Result<(), Memory>
         requires { takes self.old outcome.now }
         ensures ok { OnOk result ((outcomes : List Judged) → stands_for self.old outcomes → stands_for self.new (outcomes ++ outcome.now ∷ [])) }
         ensures err { OnErr result ((outcomes : List Judged) → stands_for self.old outcomes → stands_for self.new outcomes) }

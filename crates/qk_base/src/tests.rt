@@ -100,7 +100,7 @@ impl Tally for Count {
 
     ghost made = { λ tally. tt };
 
-    fn add(&mut self, _outcome: &Outcome) -> Result<(), Memory> {
+    fn add(&mut self, _alloc: Global, _outcome: &Outcome) -> Result<(), Memory> {
         self.outcomes = self.outcomes.saturating_add(1);
         Ok(())
     }
@@ -122,7 +122,7 @@ impl Family for Numbers {
 
     ghost listed = { λ family spread. cond (nat_lt 0 spread) ((spread - 1) ∷ []) [] };
 
-    fn spread(&self, point: &u64) -> Result<u64, Memory> {
+    fn spread(&self, _alloc: Global, point: &u64) -> Result<u64, Memory> {
         Ok(*point)
     }
 
@@ -130,29 +130,29 @@ impl Family for Numbers {
         if 0 < *spread { 1 } else { 0 }
     }
 
-    fn child(&self, spread: &u64, _k: u64) -> Result<u64, Memory> {
+    fn child(&self, _alloc: Global, spread: &u64, _k: u64) -> Result<u64, Memory> {
         Ok(*spread - 1)
     }
 
-    fn fails(&self, point: &u64) -> Result<bool, Memory> {
+    fn fails(&self, _alloc: Global, point: &u64) -> Result<bool, Memory> {
         Ok(4 < *point)
     }
 
     ghost children_are_owned = { λ family point owned k d within. tt };
 }
 
-fn tallied<K: Tally>(tally: &mut K, outcome: &Outcome) -> Result<(), Memory>
+fn tallied<K: Tally>(alloc: Global, tally: &mut K, outcome: &Outcome) -> Result<(), Memory>
     requires { K.takes tally.old outcome.now }
     ensures { K.made tally.new ≡ K.made tally.old }
 {
-    tally.add(outcome)
+    tally.add(alloc, outcome)
 }
 
-fn candidates<F: Family>(family: &F, point: &F::Point) -> Result<u64, Memory>
+fn candidates<F: Family>(alloc: Global, family: &F, point: &F::Point) -> Result<u64, Memory>
     requires { F.owns family.now point.now }
     ensures { IfOk result (λ n. n ≡ length (F.children family.now point.now)) }
 {
-    let spread = family.spread(point)?;
+    let spread = family.spread(alloc, point)?;
     Ok(family.count(&spread))
 }
 
@@ -171,14 +171,19 @@ fn outcome(alloc: Global, verdict: Verdict) -> Outcome {
 #[test]
 fn traits_are_met(rt: HostRuntime) -> Result<(), Fail> {
     let mut count = Count { outcomes: 0 };
-    tallied(&mut count, &outcome(rt.alloc(), Verdict::Pass))?;
-    tallied(&mut count, &outcome(rt.alloc(), Verdict::Discard))?;
+    tallied(rt.alloc(), &mut count, &outcome(rt.alloc(), Verdict::Pass))?;
     tallied(
+        rt.alloc(),
+        &mut count,
+        &outcome(rt.alloc(), Verdict::Discard),
+    )?;
+    tallied(
+        rt.alloc(),
         &mut count,
         &outcome(rt.alloc(), Verdict::Fail(Cause::False)),
     )?;
     assert_eq!(rt; count.outcomes, 3);
-    assert_eq!(rt; candidates(&Numbers, &0)?, 0);
-    assert_eq!(rt; candidates(&Numbers, &7)?, 1);
+    assert_eq!(rt; candidates(rt.alloc(), &Numbers, &0)?, 0);
+    assert_eq!(rt; candidates(rt.alloc(), &Numbers, &7)?, 1);
     Ok(())
 }

@@ -8,6 +8,7 @@ use crate::fold::failure;
 use crate::known::Known;
 use qk_base::{Memory, Tally};
 use qk_schedule::{Course, Finish};
+use std::alloc::Global;
 
 /// The number after the last committed one, and how the run ended, if it has.
 #[derive(Clone, Copy)]
@@ -18,6 +19,7 @@ pub(crate) struct CommitEnd {
 
 /// Commits the slots in order, up to one that knows a Fail; the first is that of attempt `from`.
 pub(crate) fn commit<C: Course, K: Tally>(
+    alloc: Global,
     course: &C,
     state: &mut C::State,
     tally: &mut K,
@@ -49,7 +51,7 @@ pub(crate) fn commit<C: Course, K: Tally>(
                         finish: Some(finish),
                     });
                 }
-                tally.add(&known.outcome)?;
+                tally.add(alloc, &known.outcome)?;
                 course.step(state, &known.outcome);
             }
         }

@@ -11,9 +11,9 @@ mod run;
 mod settle;
 mod slots;
 mod store;
-mod trial;
 #[cfg(test)]
 mod tests;
+mod trial;
 mod work;
 
 pub use known::Known;

@@ -79,7 +79,7 @@ pub fn drive<R: Threads + Sync, C: Course, T: Trial, K: Tally, G: Gate>(
             rt, alloc, gate, course, trial, &state, number, window, workers, work,
         )?;
         work = settled.work;
-        let end = commit(course, &mut state, tally, settled.folded(), number)?;
+        let end = commit(alloc, course, &mut state, tally, settled.folded(), number)?;
         if let Some(finish) = end.finish {
             return Ok(Ended {
                 state,

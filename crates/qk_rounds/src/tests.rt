@@ -60,7 +60,7 @@ impl Tally for Added {
 
     ghost made = { λ _. tt };
 
-    fn add(&mut self, _outcome: &Outcome) -> Result<(), Memory> {
+    fn add(&mut self, _alloc: Global, _outcome: &Outcome) -> Result<(), Memory> {
         if self.count == u64::MAX {
             return Err(Memory);
         }
@@ -111,7 +111,14 @@ fn runs_do_not_depend_on_workers(rt: HostRuntime) -> Result<(), Fail> {
             window,
         )?;
         let cause = Cause::False;
-        assert_eq!(rt; ended.finish, Finish::Failed { attempt: 13, size: 3, cause });
+        assert_eq!(rt;
+            ended.finish,
+            Finish::Failed {
+                attempt: 13,
+                size: 3,
+                cause
+            }
+        );
         assert_eq!(rt; ended.state.successes, 3);
         assert_eq!(rt; ended.state.discards, 10);
         assert_eq!(rt; ended.work, work, "{workers} workers, window {window}");
