@@ -189,17 +189,12 @@ fn long_files(rt: HostRuntime) -> Result<(), Fail> {
 
 #[test]
 fn words(rt: HostRuntime) -> Result<(), Fail> {
-    let words = [
-        [].as_slice(),
-        ["-f"].as_slice(),
-        ["--help"].as_slice(),
-        [""].as_slice(),
-        ["f", "f"].as_slice(),
-        ["--fast", "f"].as_slice(),
-    ];
-    for list in words {
-        answers(&rt, list, FAILING, &CALM, 2, USAGE)?;
-    }
+    answers(&rt, [].as_slice(), FAILING, &CALM, 2, USAGE)?;
+    answers(&rt, ["-f"].as_slice(), FAILING, &CALM, 2, USAGE)?;
+    answers(&rt, ["--help"].as_slice(), FAILING, &CALM, 2, USAGE)?;
+    answers(&rt, [""].as_slice(), FAILING, &CALM, 2, USAGE)?;
+    answers(&rt, ["f", "f"].as_slice(), FAILING, &CALM, 2, USAGE)?;
+    answers(&rt, ["--fast", "f"].as_slice(), FAILING, &CALM, 2, USAGE)?;
     answers(&rt, ["g"].as_slice(), FAILING, &CALM, 4, "")
 }
 
