@@ -1,0 +1,1 @@
+//! Descents over numbers.
