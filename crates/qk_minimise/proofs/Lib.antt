@@ -1,2 +1,3 @@
 pub mod Descents
+pub mod Examples
 pub mod Frontiers
