@@ -1,7 +1,7 @@
 -- Descents that were worked out by hand.
-use Rattle.std.proofs.Common.{◌≡◌, ℕ, ◌+◌, ◌-◌, ◌/◌, ◌^◌, ◌==◌, ◌||◌, nat_le, min, Bool, true, false, List, [], ◌∷◌, map, refl}
+use Rattle.std.proofs.Common.{◌≡◌, ℕ, ◌+◌, ◌-◌, ◌/◌, ◌^◌, ◌==◌, ◌||◌, nat_le, min, true, false, List, [], ◌∷◌, map, refl}
 use Rattle.std.specs.List.{range_with_len}
-use Rattle.qk_minimise.specs.Descent.{Descended, descent}
+use Rattle.qk_minimise.specs.Descent.{descent}
 
 -- the candidates x, x / 2, x / 4 and so on below a number x, for numbers below 32
 abbrev halves : ℕ → List ℕ

@@ -1,5 +1,5 @@
 -- The first failing candidate, frontier by frontier.
-use Rattle.std.proofs.Common.{◌≡◌, ℕ, zero, suc, ◌+◌, ◌-◌, ◌<◌, ◌≤◌, Bool, true, false, cond, Option, Some, None, is_some, List, [], ◌∷◌, length, take, drop, slice_get, refl, sym, ◌∙◌, ap, arith, add-zero, add-one}
+use Rattle.std.proofs.Common.{◌≡◌, ℕ, zero, suc, ◌+◌, ◌<◌, ◌≤◌, Bool, true, false, cond, Option, Some, None, is_some, List, [], ◌∷◌, length, take, drop, slice_get, refl, sym, ◌∙◌, ap, arith, add-zero}
 use Rattle.std.specs.List.{position, position_from}
 use Rattle.std.proofs.lemmas.List.{drop-drop, drop_all, length-drop}
 use Rattle.std.proofs.lemmas.Iterator.Adapters.{position_from-zero}

@@ -1,5 +1,5 @@
 -- Candidates by number.
-use Rattle.std.specs.Prelude.{ℕ, Bool, false, Option, Some, None, List, slice_get}
+use Rattle.std.specs.Prelude.{ℕ, Bool, false, Some, None, List, slice_get}
 
 -- whether the k-th point fails; past the end none does
 abbrev pub fails_at : {P : Type 0} → (P → Bool) → List P → ℕ → Bool

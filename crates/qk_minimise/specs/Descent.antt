@@ -1,5 +1,5 @@
 -- The descent from a failing point, each step to the first failing candidate.
-use Rattle.std.specs.Prelude.{ℕ, zero, suc, ◌+◌, Bool, true, false, Option, Some, None, List, [], ◌∷◌, length, position, slice_index_or}
+use Rattle.std.specs.Prelude.{ℕ, zero, suc, ◌+◌, Bool, true, false, Some, None, List, [], ◌∷◌, length, position, slice_index_or}
 
 -- where a descent ends: the point, the place of each step's candidate, how many candidates were tried, and whether the limit was met
 pub record Descended (P : Type 0) : Type 0 where

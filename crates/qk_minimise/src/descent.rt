@@ -13,7 +13,7 @@ use std::thread::Threads;
 /// candidate fails or `limit` steps are made; then no candidate of the last point is tried. `tried` counts, for each step, the
 /// candidates up to and including the failing one, and all candidates of the last point where the limit is not met. As in
 /// QuickCheck, the first failing candidate is taken; the answer is the same for every number of workers. A candidate is made
-/// once to be tried and once more where it is the first failing one.
+/// once to be tried and once more where it is the first failing one. The gate is entered with places in a frontier.
 pub fn descend<R: Threads + Sync, F: Family, G: Gate>(
     rt: &R,
     alloc: Global,

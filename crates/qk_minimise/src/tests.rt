@@ -38,14 +38,7 @@ impl Family for Halves {
     }
 
     fn child(&self, _alloc: Global, spread: &u64, k: u64) -> Result<u64, Memory> {
-        let part = match k {
-            0 => *spread,
-            1 => *spread / 2,
-            2 => *spread / 4,
-            3 => *spread / 8,
-            _ => *spread / 16,
-        };
-        Ok(*spread - part)
+        Ok(*spread - (*spread >> k))
     }
 
     fn fails(&self, _alloc: Global, point: &u64) -> Result<bool, Memory> {
@@ -93,7 +86,14 @@ impl Family for Below {
     ghost children_are_owned = { λ family point owned k d within. tt };
 }
 
-fn expect(rt: &impl Abort, minimum: &Minimum<u64>, point: u64, path: &[u64], tried: u64, met: bool) {
+fn expect(
+    rt: &impl Abort,
+    minimum: &Minimum<u64>,
+    point: u64,
+    path: &[u64],
+    tried: u64,
+    met: bool,
+) {
     assert_eq!(rt; minimum.point, point);
     assert_eq!(rt; minimum.path.as_slice(), path);
     assert_eq!(rt; minimum.tried, Some(tried));

@@ -1,7 +1,6 @@
-use Rattle.std.proofs.Common.{◌≡◌, ◌≤◌, ◌↔◌, Bool, true, false, All, length, sym, subst}
+use Rattle.std.proofs.Common.{◌≡◌, ◌≤◌, ◌↔◌, true, false, All, length, sym, subst}
 use Rattle.std.proofs.lemmas.Result.{IfOk-weaker}
-use Rattle.qk_minimise.specs.Descent.{descent}
-use Rattle.qk_minimise.specs.Minimal.{Minimal, minimal_of}
+use Rattle.qk_minimise.specs.Minimal.{Minimal}
 use Rattle.qk_minimise.proofs.Descents.{fails_at_end, steps_at_end, least_at_end}
 use Rattle.qk_minimise.proofs.descent.descend.Goals as goal
 

@@ -1,4 +1,4 @@
-use Rattle.std.proofs.Common.{◌≡◌, ℕ, ◌+◌, ◌-◌, ◌*◌, ◌^◌, ◌<◌, ◌≤◌, List, false, Some, All, length, position, subst, sym, ◌∙◌, ap, arith}
+use Rattle.std.proofs.Common.{◌≡◌, ◌+◌, ◌-◌, ◌<◌, false, Some, All, length, position, subst, sym, ◌∙◌, ap, arith}
 use Rattle.qk_minimise.specs.Descent.{descent}
 use Rattle.qk_minimise.specs.Minimal.{minimal_of}
 use Rattle.qk_minimise.proofs.Descents.{after, ends, goes_on, place_within, one_of_all}
@@ -15,7 +15,7 @@ returns-in_default-clause-descent g c =
     let whole = descent children failing c.args.limit c.args.start in
     ap (λ n. record { point = point; path = path; tried = Some (c.loop-step.tried + n); limit_met = false }) c.count-count.ensures.count
     ∙ ap minimal_of (ends children failing path c.loop-step.tried c.args.limit c.loop-step.step point whole ps (omega arith) c.in_ok-spread.ensures c.loop-step.invariant.so_far
-      (sym c.in_ok-place.ensures ∙ c.in_default.is))
+    (sym c.in_ok-place.ensures ∙ c.in_default.is))
 
 pub loop-step-preserved : goal.loop-step-preserved
 loop-step-preserved g c =
@@ -42,6 +42,6 @@ loop-step-preserved g c =
       owned = one_of_all (g.F.Family.owns family) ps place next within c.in_ok-point.ensures all;
       few = omega (arith, few, bounded, within, counted);
       so_far =
-        ap (λ l. after l (tried + (place + 1)) rest) c.in_ok-add.ensures.ok
-        ∙ goes_on children failing path tried c.args.limit c.loop-step.step point whole ps (omega arith) c.in_ok-spread.ensures inv.so_far place next first c.in_ok-point.ensures;
+          ap (λ l. after l (tried + (place + 1)) rest) c.in_ok-add.ensures.ok
+          ∙ goes_on children failing path tried c.args.limit c.loop-step.step point whole ps (omega arith) c.in_ok-spread.ensures inv.so_far place next first c.in_ok-point.ensures;
     }

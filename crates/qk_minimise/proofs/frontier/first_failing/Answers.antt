@@ -1,5 +1,5 @@
 use Rattle.std.proofs.Common.{◌≡◌, ◌+◌, ◌≤◌, length, sym, ◌∙◌, arith}
-use Rattle.qk_minimise.proofs.Frontiers.{first_begins, first_ends, first_found, first_goes_on}
+use Rattle.qk_minimise.proofs.Frontiers.{first_begins, first_found, first_goes_on}
 use Rattle.qk_minimise.proofs.frontier.first_failing.Goals as goal
 
 pub loop-first-init : goal.loop-first-init

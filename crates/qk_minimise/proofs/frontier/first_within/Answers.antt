@@ -1,4 +1,4 @@
-use Rattle.std.proofs.Common.{◌≡◌, ℕ, Option, Some, None, sym, ◌∙◌}
+use Rattle.std.proofs.Common.{Some, None, sym, ◌∙◌}
 use Rattle.qk_minimise.proofs.Frontiers.{scanned}
 use Rattle.qk_minimise.proofs.frontier.first_within.Goals as goal
 
