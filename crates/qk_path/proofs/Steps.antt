@@ -142,8 +142,10 @@ module _ {F P : Type 0} (children : F → P → List P) (failing : F → P → B
             (places ++ j ∷ [], offer_keeps children failing f p walkers limit s.words s.views places k id me.0 at alive short free j drew below fails),
         (
           refl,
-          (λ _ q h. subst (λ (m : ℕ). (with_step me.0 j ≡ with_step me.0 m) × StartLeads children failing me.0.start (me.0.path ++ m ∷ [])) (same_suc j q h) (refl,
-          subst (λ (t : Option (F × P)). StartLeads children failing t (me.0.path ++ j ∷ [])) (sym (k.same id me.0 at alive)) (leads_step children failing f p walkers limit s.words s.views places k id me.0 at alive short free j drew below fails))),
+          (λ _ q h. subst (λ (m : ℕ). (with_step me.0 j ≡ with_step me.0 m) × StartLeads children failing me.0.start (me.0.path ++ m ∷ [])) (same_suc j q h) (
+            refl,
+            subst (λ (t : Option (F × P)). StartLeads children failing t (me.0.path ++ j ∷ [])) (sym (k.same id me.0 at alive)) (leads_step children failing f p walkers limit s.words s.views places k id me.0 at alive short free j drew below fails),
+          )),
           (λ q h. absurd (omega arith)),
         ),
       ))
@@ -215,21 +217,21 @@ module _ {F P : Type 0} (children : F → P → List P) (failing : F → P → B
   pub splits : (id : ℕ) (v : PathView F P) → IsEmptyView v → 0 < v.parts → Splits Rule id v (one_less v) (handed v)
   splits id v bare alive s (places, k) at = let us : List (PathView F P) = set s.views id (one_less v) ++ handed v ∷ [] in
       let both : (Q : PathView F P → Type 0) → ((i : ℕ) (u : PathView F P) → get_elem? s.views i ≡ some u → Q u) → Q (one_less v) → Q (handed v) → (i : ℕ) (u : PathView F P) → get_elem? us i ≡ some u → Q u
-          = λ Q all one two. each_snoc Q (set s.views id (one_less v)) (handed v) (each_set Q s.views id (one_less v) all one) two in (
+      = λ Q all one two. each_snoc Q (set s.views id (one_less v)) (handed v) (each_set Q s.views id (one_less v) all one) two in (
         places,
         regrouped s.words s.views us places k
-        (λ e x. split_total (draws_of e x) s.views id v (one_less v) (handed v) at (plus_zero (drawn e x v.draws)))
-        (λ e. split_total (dones_of e) s.views id v (one_less v) (handed v) at (plus_zero (times e v.done)))
-        (split_total parts_of s.views id v (one_less v) (handed v) at (one_back v.parts alive))
-        (both (λ u. IsPrefix u.path places) k.prefixes (k.prefixes id v at) tt)
-        (both (λ u. AllPrefixes u.absorbed places) k.absorbed (k.absorbed id v at) tt)
-        (split_pos (full_of (length places)) s.views id v (one_less v) (handed v) at refl k.whole)
-        (both (IsOthers places) k.others (k.others id v at) (λ j h. refl))
-        (both Tidy k.levels (k.levels id v at) (λ q h. ((λ x. refl), refl)))
-        (both (Dones children failing f p walkers limit places) k.dones (k.dones id v at) (λ q h. refl))
-        (both (Within children failing f p walkers limit) k.within (λ q. le_any (times q v.done) (v.parts - 1) (no_times q v.done bare.2)) (λ q. omega arith))
-        (both (Idle children failing f p walkers limit) k.idle (λ _. bare) (λ e. absurd (omega arith)))
-        (both (Same children failing f p walkers limit) k.same (λ _. k.same id v at alive) (λ _. k.same id v at alive)),
+            (λ e x. split_total (draws_of e x) s.views id v (one_less v) (handed v) at (plus_zero (drawn e x v.draws)))
+            (λ e. split_total (dones_of e) s.views id v (one_less v) (handed v) at (plus_zero (times e v.done)))
+            (split_total parts_of s.views id v (one_less v) (handed v) at (one_back v.parts alive))
+            (both (λ u. IsPrefix u.path places) k.prefixes (k.prefixes id v at) tt)
+            (both (λ u. AllPrefixes u.absorbed places) k.absorbed (k.absorbed id v at) tt)
+            (split_pos (full_of (length places)) s.views id v (one_less v) (handed v) at refl k.whole)
+            (both (IsOthers places) k.others (k.others id v at) (λ j h. refl))
+            (both Tidy k.levels (k.levels id v at) (λ q h. ((λ x. refl), refl)))
+            (both (Dones children failing f p walkers limit places) k.dones (k.dones id v at) (λ q h. refl))
+            (both (Within children failing f p walkers limit) k.within (λ q. le_any (times q v.done) (v.parts - 1) (no_times q v.done bare.2)) (λ q. omega arith))
+            (both (Idle children failing f p walkers limit) k.idle (λ _. bare) (λ e. absurd (omega arith)))
+            (both (Same children failing f p walkers limit) k.same (λ _. k.same id v at alive) (λ _. k.same id v at alive)),
       )
 
   join_total : (g : PathView F P → ℕ) (vs : List (PathView F P)) (id other : ℕ) (v w : PathView F P) → get_elem? vs id ≡ some v → get_elem? (set vs id (joined v w)) other ≡ some w → g (joined v w) ≡ g v + g w → g spent_view ≡ 0
@@ -256,28 +258,29 @@ module _ {F P : Type 0} (children : F → P → List P) (failing : F → P → B
       let us : List (PathView F P) = set (set s.views id both) other spent_view in
       let there : get_elem? s.views other ≡ some w = ⊎_elim (λ (t : (other ≡ id) × (both ≡ w)). absurd (apart t.0)) (λ (t : (other ≢ id) × (get_elem? s.views other ≡ some w)). t.1) (at_set s.views id other both w too) in
       let all : (Q : PathView F P → Type 0) → ((i : ℕ) (u : PathView F P) → get_elem? s.views i ≡ some u → Q u) → Q both → Q spent_view → (i : ℕ) (u : PathView F P) → get_elem? us i ≡ some u → Q u
-          = λ Q old one two. each_set Q (set s.views id both) other spent_view (each_set Q s.views id both old one) two in
+      = λ Q old one two. each_set Q (set s.views id both) other spent_view (each_set Q s.views id both old one) two in
       let len = longer_len v.path w.path in
       let pre : IsPrefix both.path places = longer_by (λ l. IsPrefix l places) v.path w.path (k.prefixes id v at) (k.prefixes other w there) in
       let fits_in = prefix_le both.path places pre in (
         places,
         regrouped s.words s.views us places k
-        (λ e x. join_total (draws_of e x) s.views id other v w at too (drawn_append e x v.draws w.draws) refl)
-        (λ e. join_total (dones_of e) s.views id other v w at too (times_append e v.done w.done) refl)
-        (join_total parts_of s.views id other v w at too refl refl)
-        (all (λ u. IsPrefix u.path places) k.prefixes pre tt)
-        (all (λ u. AllPrefixes u.absorbed places) k.absorbed (prefixes_append v.absorbed (v.path ∷ w.path ∷ w.absorbed) places (k.absorbed id v at) (k.prefixes id v at, (k.prefixes other w there, k.absorbed other w there))) tt)
-        (join_pos (full_of (length places)) s.views id other v w at (λ e. apart (sym e)) too (full_le (length v.path) (length both.path) (length places) len.0 fits_in) (full_le (length w.path) (length both.path) (length places) len.1 fits_in) k.whole)
-        (all (IsOthers places) k.others (λ j h. let n : ℕ = length both.path in let from = others_from children failing f p walkers limit places in
-        sum_zero (drawn n j (v.draws ++ w.draws)) (drawn n j v.draws) (drawn n j w.draws) (drawn_append n j v.draws w.draws) (from v (k.others id v at) (k.levels id v at) n len.0 j h) (from w (k.others other w there) (k.levels other w there) n len.1 j h)) (λ j h. refl))
-        (all Tidy k.levels (λ q h. (
-        (λ x. sum_zero (drawn q x (v.draws ++ w.draws)) (drawn q x v.draws) (drawn q x w.draws) (drawn_append q x v.draws w.draws) ((k.levels id v at q (omega arith)).0 x) ((k.levels other w there q (omega arith)).0 x)),
-        sum_zero (times q (v.done ++ w.done)) (times q v.done) (times q w.done) (times_append q v.done w.done) (k.levels id v at q (omega arith)).1 (k.levels other w there q (omega arith)).1)) (λ q h. ((λ x. refl), refl)))
-        (all (Dones children failing f p walkers limit places) k.dones (λ q h. let m : ℕ = width (children f) p (take q places) in
-        sum_same (times q v.done) (times q w.done) (past q m v.draws) (past q m w.draws) (times q (v.done ++ w.done)) (past q m (v.draws ++ w.draws)) (times_append q v.done w.done) (past_append q m v.draws w.draws) (k.dones id v at q h) (k.dones other w there q h)) (λ q h. refl))
-        (all (Within children failing f p walkers limit) k.within (λ q. sum_le (times q (v.done ++ w.done)) (times q v.done) (times q w.done) v.parts w.parts (times_append q v.done w.done) (k.within id v at q) (k.within other w there q)) (λ q. omega arith))
-        (all (Idle children failing f p walkers limit) k.idle (λ e. absurd (omega arith)) (λ _. (refl, refl, refl, refl, refl)))
-        (all (Same children failing f p walkers limit) k.same (λ _. k.same id v at alive) (λ h. absurd (omega arith))),
+            (λ e x. join_total (draws_of e x) s.views id other v w at too (drawn_append e x v.draws w.draws) refl)
+            (λ e. join_total (dones_of e) s.views id other v w at too (times_append e v.done w.done) refl)
+            (join_total parts_of s.views id other v w at too refl refl)
+            (all (λ u. IsPrefix u.path places) k.prefixes pre tt)
+            (all (λ u. AllPrefixes u.absorbed places) k.absorbed (prefixes_append v.absorbed (v.path ∷ w.path ∷ w.absorbed) places (k.absorbed id v at) (k.prefixes id v at, (k.prefixes other w there, k.absorbed other w there))) tt)
+            (join_pos (full_of (length places)) s.views id other v w at (λ e. apart (sym e)) too (full_le (length v.path) (length both.path) (length places) len.0 fits_in) (full_le (length w.path) (length both.path) (length places) len.1 fits_in) k.whole)
+            (all (IsOthers places) k.others (λ j h. let n : ℕ = length both.path in let from = others_from children failing f p walkers limit places in
+            sum_zero (drawn n j (v.draws ++ w.draws)) (drawn n j v.draws) (drawn n j w.draws) (drawn_append n j v.draws w.draws) (from v (k.others id v at) (k.levels id v at) n len.0 j h) (from w (k.others other w there) (k.levels other w there) n len.1 j h)) (λ j h. refl))
+            (all Tidy k.levels (λ q h. (
+              (λ x. sum_zero (drawn q x (v.draws ++ w.draws)) (drawn q x v.draws) (drawn q x w.draws) (drawn_append q x v.draws w.draws) ((k.levels id v at q (omega arith)).0 x) ((k.levels other w there q (omega arith)).0 x)),
+              sum_zero (times q (v.done ++ w.done)) (times q v.done) (times q w.done) (times_append q v.done w.done) (k.levels id v at q (omega arith)).1 (k.levels other w there q (omega arith)).1,
+            )) (λ q h. ((λ x. refl), refl)))
+            (all (Dones children failing f p walkers limit places) k.dones (λ q h. let m : ℕ = width (children f) p (take q places) in
+            sum_same (times q v.done) (times q w.done) (past q m v.draws) (past q m w.draws) (times q (v.done ++ w.done)) (past q m (v.draws ++ w.draws)) (times_append q v.done w.done) (past_append q m v.draws w.draws) (k.dones id v at q h) (k.dones other w there q h)) (λ q h. refl))
+            (all (Within children failing f p walkers limit) k.within (λ q. sum_le (times q (v.done ++ w.done)) (times q v.done) (times q w.done) v.parts w.parts (times_append q v.done w.done) (k.within id v at q) (k.within other w there q)) (λ q. omega arith))
+            (all (Idle children failing f p walkers limit) k.idle (λ e. absurd (omega arith)) (λ _. (refl, refl, refl, refl, refl)))
+            (all (Same children failing f p walkers limit) k.same (λ _. k.same id v at alive) (λ h. absurd (omega arith))),
       )
 
 -- The same where the walker's word is found by its level, and the key is known to be a family, a root and a limit.

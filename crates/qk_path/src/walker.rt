@@ -22,10 +22,7 @@ pub struct Walker<F: Family> {
     ghost ended: { Ended F.children seat.me.0 },
 }
 
-pub(crate) fn walking<F: Family>(
-    seat: Seat<(), PathView<F, F::Point>>,
-    path: Seq<u64>,
-) -> Walker<F>
+pub(crate) fn walking<F: Family>(seat: Seat<(), PathView<F, F::Point>>, path: Seq<u64>) -> Walker<F>
     requires { (seat.me.1 ≡ []) × IsEmptyView seat.me.0 × (path.items ≡ []) }
     ensures { (result.seat ≡ seat) × (result.path ≡ path) }
 {

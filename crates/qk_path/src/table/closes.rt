@@ -21,7 +21,11 @@ struct Gathered<F: Family> {
 fn longer_of(first: Seq<u64>, second: Seq<u64>) -> Seq<u64>
     ensures { result.items ≡ longer first.items second.items }
 {
-    if first.len() <= second.len() { second } else { first }
+    if first.len() <= second.len() {
+        second
+    } else {
+        first
+    }
 }
 
 fn part<F: Family>(walker: Walker<F>) -> Gathered<F>

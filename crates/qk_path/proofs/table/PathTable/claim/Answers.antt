@@ -14,7 +14,7 @@ fetch_add-number-requires g c =
       search rules,
       inside,
       claims_at g.F.Family.children g.F.Family.failing k.family.now k.root.now k.walkers k.limit t.family.now t.root.now t.limit t.started.0 t.started.1 t.started.2 _ _ c.len-level.result w.seat.me lv alive c.requires.level
-      c.args.count c.requires.count.0 c.requires.count.1 t.started.4 c.requires.ready,
+          c.args.count c.requires.count.0 c.requires.count.1 t.started.4 c.requires.ready,
     )
 
 pub invariant_of-walker : goal.invariant_of-walker

@@ -13,7 +13,7 @@ compare_exchange-found-requires g c =
       search rules,
       inside,
       offers_at g.F.Family.children g.F.Family.failing k.family.now k.root.now k.walkers k.limit t.family.now t.root.now t.limit t.started.0 t.started.1 t.started.2 _ _ c.len-level.result w.seat.me lv alive c.requires.level
-      c.args.k (c.args.k + 1) (omega arith) c.requires.drawn c.requires.fails.0 c.requires.fails.1,
+          c.args.k (c.args.k + 1) (omega arith) c.requires.drawn c.requires.fails.0 c.requires.fails.1,
     )
 
 pub invariant_of-walker : goal.invariant_of-walker
