@@ -1,15 +1,14 @@
 -- The views of all walkers in one.
-use Rattle.std.proofs.Common.{◌≡◌, ℕ, zero, suc, ◌+◌, ◌-◌, ◌*◌, ◌<◌, ◌≤◌, ◌≢◌, take, cond, eqb, Bool, List, [], ◌∷◌, ◌++◌, length, length-append, All, get_or, sym, refl, ap, ◌∙◌, subst, inl, inr, replicate, arith}
+use Rattle.std.proofs.Common.{◌≡◌, ℕ, zero, suc, ◌+◌, ◌*◌, ◌<◌, ◌≤◌, take, cond, eqb, Bool, List, [], ◌∷◌, ◌++◌, length, All, get_or, sym, refl, ap, ◌∙◌, subst, inl, inr, replicate, arith}
 use Rattle.std.proofs.lemmas.List.Elements.{All-tail}
-use mathlib.Core.Option.{some, some-injective, some-ne-none}
+use mathlib.Core.Option.{some}
 use lib.ListN.{get_elem?}
 use Rattle.std.specs.Prelude.{Some}
 use Rattle.qk_path.specs.declared.view.PathView.{PathView}
-use Rattle.qk_path.specs.Paths.{path_word, IsPrefix, AllPrefixes, longer}
+use Rattle.qk_path.specs.Paths.{IsPrefix, AllPrefixes}
 use Rattle.qk_path.specs.Points.{width, Leads}
 use Rattle.qk_path.specs.Rule.{KeptAt}
-use Rattle.qk_path.specs.Steps.{joined}
-use Rattle.qk_path.specs.Views.{IsOthers, full_of, fresh, Tidy, past, draws_of, dones_of, parts_of, IsEmptyView}
+use Rattle.qk_path.specs.Views.{IsOthers, full_of, fresh, Tidy, past, draws_of, parts_of, IsEmptyView}
 use Rattle.qk_totals.specs.Totals.{total, times, drawn, EachBelow}
 use Rattle.qk_totals.proofs.Gather.{only, alone}
 use Rattle.qk_path.proofs.Paths.{prefix_all, prefix_le, full_no, full_yes}
@@ -17,7 +16,7 @@ use Rattle.qk_base.specs.declared.family.Family.{Ghosts}
 use Rattle.qk_path.specs.declared.walker.Walker.{Walker}
 use Rattle.qk_path.specs.Walkers.{view_of, HasPath}
 use mathlib.Core.Logic.{dite}
-use native.Mathlib.Decide.{ℕ_discrete, dec_le}
+use native.Mathlib.Decide.{ℕ_discrete}
 
 pub full_pos : (a n : ℕ) → a ≡ n → 0 < cond (eqb a n) 1 0
 full_pos a n e = let y = full_yes a n e in omega arith

@@ -1,5 +1,5 @@
 -- Each step keeps the rule of the path table.
-use Rattle.std.proofs.Common.{◌≡◌, ℕ, zero, suc, ◌+◌, ◌-◌, ◌*◌, ◌<◌, ◌≤◌, ◌≢◌, cond, eqb, eq-eqb, ne_eqb, Bool, true, List, [], ◌∷◌, ◌++◌, take, length, get_or, set, sym, refl, ap, ◌∙◌, subst, length-set, length-append, get_or-set_same, get_or-set_other, arith}
+use Rattle.std.proofs.Common.{◌≡◌, ℕ, suc, ◌+◌, ◌-◌, ◌*◌, ◌<◌, ◌≤◌, ◌≢◌, Bool, true, List, [], ◌∷◌, ◌++◌, take, length, get_or, set, sym, refl, ap, ◌∙◌, subst, length-set, length-append, get_or-set_same, get_or-set_other, arith}
 use mathlib.Core.Logic.{dite}
 use mathlib.Core.Option.{some}
 use native.Mathlib.Decide.{ℕ_discrete, dec_le}
@@ -9,10 +9,10 @@ use Rattle.qk_path.specs.declared.view.PathView.{PathView}
 use Rattle.qk_path.specs.Paths.{IsPrefix, AllPrefixes, path_word}
 use Rattle.qk_path.specs.Points.{reached, nth, Leads, width}
 use Rattle.qk_path.specs.Rule.{KeptAt}
-use Rattle.qk_path.specs.Views.{past, draws_of, dones_of, parts_of, full_of, IsEmptyView, Tidy, IsOthers, with_draw, with_done, with_miss, with_step}
+use Rattle.qk_path.specs.Views.{past, draws_of, dones_of, parts_of, full_of, IsEmptyView, Tidy, IsOthers, with_draw, with_done, with_step}
 use Rattle.qk_totals.specs.Totals.{total, times, drawn, EachBelow}
 use Rattle.qk_totals.proofs.Totals.{le_total, pair_total, each_other, total_mono, total_set, total_none, kept_pos, moved, each_set, times_append, drawn_append, one_same, one_other, draw_same, draw_elsewhere, draw_other}
-use Rattle.qk_path.proofs.Paths.{prefix_zero, prefix_suc, prefix_more, prefixes_more, prefix_self, prefix_le, prefix_all, prefix_take, take_more, word_last, word_else, word_suc, leads_more, past_append, past_low, past_high, past_else, past_none, full_le, full_yes, full_no}
+use Rattle.qk_path.proofs.Paths.{prefix_zero, prefix_more, prefixes_more, prefix_self, prefix_le, prefix_take, take_more, word_last, word_else, leads_more, past_append, past_low, past_high, past_else, past_none, full_le, full_yes, full_no}
 
 add_zero : (x : ℕ) → x + 0 ≡ x
 add_zero x = omega arith

@@ -1,11 +1,11 @@
 -- Prefixes, marks and paths that lead.
-use Rattle.std.proofs.Common.{◌≡◌, ℕ, zero, suc, ◌+◌, ◌-◌, ◌<◌, ◌≤◌, ◌≢◌, cond, Bool, true, false, eqb, eq-eqb, ne_eqb, List, [], ◌∷◌, ◌++◌, take, length, get_or, set, sym, refl, ap, ◌∙◌, subst, arith}
+use Rattle.std.proofs.Common.{◌≡◌, ℕ, zero, suc, ◌+◌, ◌-◌, ◌<◌, ◌≤◌, ◌≢◌, cond, Bool, true, eqb, eq-eqb, ne_eqb, List, [], ◌∷◌, ◌++◌, take, length, get_or, set, sym, refl, ap, ◌∙◌, subst, arith}
 use mathlib.Core.Logic.{dite}
-use native.Mathlib.Decide.{dec_le, ℕ_discrete}
-use Rattle.qk_path.specs.Paths.{IsPrefix, AllPrefixes, path_word, longer}
+use native.Mathlib.Decide.{ℕ_discrete}
+use Rattle.qk_path.specs.Paths.{IsPrefix, AllPrefixes, path_word}
 use Rattle.qk_path.specs.Points.{reached, Leads, width, nth}
 use Rattle.qk_path.specs.Views.{past}
-use Rattle.qk_totals.specs.Totals.{drawn, times}
+use Rattle.qk_totals.specs.Totals.{drawn}
 
 pub prefix_zero : (xs ys : List ℕ) → IsPrefix xs ys → path_word ys (length xs) ≡ 0 → xs ≡ ys
 prefix_zero [] [] h e = refl

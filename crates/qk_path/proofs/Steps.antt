@@ -1,23 +1,23 @@
 -- What the steps of a table ask, from the lemmas of `Keeps`.
-use Rattle.std.proofs.Common.{◌≡◌, ℕ, zero, suc, ◌+◌, ◌-◌, ◌*◌, ◌%◌, ◌^◌, ◌<◌, ◌≤◌, ◌≢◌, ◌⊎◌, cond, eqb, eq-eqb, ne_eqb, Bool, true, false, List, [], ◌∷◌, ◌++◌, take, length, get_or, set, length-append, sym, refl, ap, ◌∙◌, subst, ⊎_elim, arith}
+use Rattle.std.proofs.Common.{◌≡◌, ℕ, zero, suc, ◌+◌, ◌-◌, ◌*◌, ◌%◌, ◌^◌, ◌<◌, ◌≤◌, ◌≢◌, cond, eqb, eq-eqb, ne_eqb, Bool, true, false, List, [], ◌∷◌, ◌++◌, take, length, get_or, set, length-append, sym, refl, ap, ◌∙◌, subst, ⊎_elim, arith}
 use mathlib.Core.Logic.{dite}
 use mathlib.Core.Option.{none, some, some-ne-none}
 use native.Mathlib.Decide.{dec_le, ℕ_discrete}
 use prog.Atomic.{either}
 use lib.ListN.{get_elem?}
-use Rattle.std.specs.Prelude.{Option, Some}
+use Rattle.std.specs.Prelude.{Option}
 use Rattle.atomic_table.specs.Table.{State, Me, step, keeps, stepped, Allows, Splits, Joins}
 use Rattle.atomic_table.proofs.Lists.{at_set, set_here, set_else}
 use Rattle.qk_path.specs.declared.view.PathView.{PathView}
 use Rattle.qk_path.specs.Paths.{IsPrefix, AllPrefixes, path_word, longer}
-use Rattle.qk_path.specs.Points.{reached, nth, Leads, width}
+use Rattle.qk_path.specs.Points.{reached, nth, width}
 use Rattle.qk_path.specs.Rule.{KeptAt, Kept}
 use Rattle.qk_path.specs.Steps.{Claimed, Looked, Offered, one_less, handed, joined, spent_view}
 use Rattle.qk_path.specs.Views.{IsOthers, past, StartLeads, width_of, start_width, draws_of, dones_of, parts_of, full_of, IsEmptyView, Tidy, with_draw, with_done, with_miss, with_step}
-use Rattle.qk_totals.specs.Totals.{total, times, drawn, EachBelow}
+use Rattle.qk_totals.specs.Totals.{total, times, drawn}
 use Rattle.qk_totals.proofs.Totals.{total_set, total_append, le_total, each_set, each_snoc, times_append, drawn_append}
 use Rattle.qk_path.proofs.Paths.{prefix_suc, prefix_le, word_suc, leads_prefix, past_append, prefixes_append, set_id, full_le}
-use Rattle.qk_path.proofs.Keeps.{others_from, Idle, Same, Within, Dones, level, fits, claim_low, claim_high, path_keeps, offer_keeps, leads_step}
+use Rattle.qk_path.proofs.Keeps.{others_from, Idle, Same, Within, Dones, fits, claim_low, claim_high, path_keeps, offer_keeps, leads_step}
 
 wraps : (n len walkers : ℕ) → n ≤ len + walkers → len + walkers < 2 ^ 63 → n + 1 ≡ (n + 1) % 2 ^ 64
 wraps n len walkers h k = omega arith

@@ -1,10 +1,10 @@
 -- What a walker's step does to what it keeps beside its seat.
-use Rattle.std.proofs.Common.{◌≡◌, ℕ, zero, suc, ◌+◌, ◌-◌, ◌<◌, ◌≤◌, ◌≢◌, cond, eq-eqb, ne_eqb, Bool, true, false, List, [], ◌∷◌, ◌++◌, take, length, length-append, sym, refl, ap, ◌∙◌, subst, arith}
+use Rattle.std.proofs.Common.{◌≡◌, ℕ, ◌+◌, ◌-◌, ◌<◌, ◌≤◌, cond, eq-eqb, ne_eqb, Bool, true, false, List, [], ◌∷◌, ◌++◌, take, length, length-append, sym, refl, ap, ◌∙◌, subst, arith}
 use Rattle.std.specs.Prelude.{Option, Some}
 use Rattle.qk_path.specs.declared.view.PathView.{PathView}
 use Rattle.qk_path.specs.Points.{Leads, width}
 use Rattle.qk_path.specs.Walkers.{IsDoneWhere}
-use Rattle.qk_path.specs.Views.{Tidy, Marked, StartLeads, Ended, IsEmptyView, past, width_of, start_width, with_draw, with_done, with_miss, with_step}
+use Rattle.qk_path.specs.Views.{Tidy, Marked, StartLeads, Ended, IsEmptyView, past, width_of, start_width, with_draw, with_done, with_step}
 use Rattle.qk_totals.specs.Totals.{times, drawn}
 use mathlib.Core.Logic.{dite}
 use native.Mathlib.Decide.{ℕ_discrete, dec_le}

@@ -1,5 +1,4 @@
-use Rattle.std.proofs.Common.{rules, arith, ◌≡◌, ◌+◌, ◌*◌, ◌<◌, ◌≤◌, ◌^◌, length, true, false, sym, subst, ap, ◌∙◌}
-use Rattle.qk_path.specs.Points.{width}
+use Rattle.std.proofs.Common.{rules, arith, ◌≡◌, ◌+◌, ◌*◌, ◌<◌, ◌≤◌, length, true, sym, subst, ap, ◌∙◌}
 use Rattle.qk_path.specs.Views.{Tidy, Marked, Ended, with_draw, with_done}
 use Rattle.qk_path.proofs.Steps.{claims_at}
 use Rattle.qk_path.proofs.Walking.{ended_draw, ended_done, tidy_draw, tidy_done, marked_done, known_width}

@@ -1,12 +1,12 @@
-use Rattle.std.proofs.Common.{rules, arith, ◌≡◌, ◌+◌, ◌*◌, ◌<◌, ◌≤◌, ℕ, List, length, get_or, eqb, eq-eqb, eqb-true, sym, ◌∙◌, subst, ap}
+use Rattle.std.proofs.Common.{rules, arith, ◌≡◌, ◌+◌, ◌*◌, ◌<◌, ℕ, List, length, get_or, sym, ◌∙◌, subst, ap}
 use Rattle.qk_path.specs.Paths.{IsPrefix, AllPrefixes}
 use Rattle.qk_path.specs.Points.{Leads}
 use Rattle.qk_path.specs.Views.{draws_of, full_of}
-use Rattle.qk_totals.specs.Totals.{total, EachBelow}
+use Rattle.qk_totals.specs.Totals.{total}
 use Rattle.qk_path.specs.Walkers.{view_of}
 use Rattle.qk_path.proofs.Walking.{done_where}
 use Rattle.qk_path.proofs.Paths.{prefix_self}
-use Rattle.qk_path.proofs.Closing.{has_path, final_draws, final_path, final_leads, final_taken, final_short}
+use Rattle.qk_path.proofs.Closing.{has_path, final_draws, final_leads, final_taken, final_short}
 use Rattle.qk_path.proofs.table.PathTable.close.Goals as goal
 
 pub returns-clause-prefixes : goal.returns-clause-prefixes

@@ -1,4 +1,4 @@
-use Rattle.std.proofs.Common.{rules, arith, ◌≡◌, ◌+◌, ◌-◌, ◌<◌, [], ◌∷◌, ◌++◌, length, length-append, All, refl, sym, subst, ap, ◌∙◌}
+use Rattle.std.proofs.Common.{rules, arith, ◌≡◌, ◌<◌, [], ◌∷◌, ◌++◌, length, length-append, All, refl, sym, subst, ap, ◌∙◌}
 use Rattle.qk_path.specs.declared.walker.Walker.{Walker}
 use Rattle.qk_path.specs.Views.{IsEmptyView}
 use Rattle.qk_path.specs.Walkers.{view_of, IsWalkerOf}

@@ -1,12 +1,11 @@
-use Rattle.std.proofs.Common.{arith, ◌≡◌, ℕ, ◌+◌, ◌<◌, ◌≤◌, List, [], ◌∷◌, ◌++◌, length, All, sym, ap, ◌∙◌, subst}
-use Rattle.qk_path.specs.declared.view.PathView.{PathView}
+use Rattle.std.proofs.Common.{arith, ◌≡◌, ℕ, ◌+◌, ◌<◌, List, [], ◌∷◌, ◌++◌, length, All, sym, ap, ◌∙◌, subst}
 use Rattle.qk_path.specs.declared.walker.Walker.{Walker}
 use Rattle.qk_path.specs.Paths.{longer, IsPrefix, AllPrefixes}
 use Rattle.qk_path.specs.Steps.{joined}
 use Rattle.qk_path.specs.Views.{draws_of, full_of, parts_of}
 use Rattle.qk_totals.specs.Totals.{total}
 use Rattle.qk_path.specs.Walkers.{view_of, IsWalkerOf}
-use Rattle.qk_totals.proofs.Totals.{times_append, drawn_append}
+use Rattle.qk_totals.proofs.Totals.{drawn_append}
 use Rattle.qk_path.proofs.Closing.{full_pos, prefixes_split}
 use Rattle.qk_totals.proofs.Gather.{all_front, all_last, passed, first_passed, one_shorter, fewer, counted, put_back}
 use Rattle.qk_path.proofs.Steps.{joins, longer_by}

@@ -1,7 +1,7 @@
-use Rattle.std.proofs.Common.{rules, arith, ◌≡◌, ◌+◌, ◌*◌, ◌-◌, ◌<◌, ◌≤◌, suc, length, true, false, sym, subst, ap, ◌∙◌, ◌++◌, [], ◌∷◌, ℕ}
+use Rattle.std.proofs.Common.{rules, arith, ◌≡◌, ◌+◌, ◌*◌, ◌-◌, ◌<◌, ◌≤◌, length, false, sym, subst, ap, ◌∙◌, ◌++◌, [], ◌∷◌, ℕ}
 use Rattle.qk_path.specs.Views.{Tidy, Marked, Ended, with_miss, with_step}
 use Rattle.qk_path.proofs.Steps.{looks_at}
-use Rattle.qk_path.proofs.Walking.{short_step, ended_step, tidy_step, marked_step, known_leads}
+use Rattle.qk_path.proofs.Walking.{short_step, ended_step, tidy_step, marked_step}
 use Rattle.qk_path.proofs.table.PathTable.look.Goals as goal
 
 pub load-found-requires : goal.load-found-requires
