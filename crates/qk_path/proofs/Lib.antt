@@ -1,0 +1,5 @@
+pub mod Paths
+pub mod Keeps
+pub mod Steps
+pub mod Walking
+pub mod Closing
