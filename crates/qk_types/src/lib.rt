@@ -5,6 +5,7 @@ mod checked;
 mod definitions;
 mod expr;
 mod gen_expr;
+mod names;
 mod property;
 #[cfg(test)]
 mod tests;
