@@ -1,2 +1,3 @@
 pub mod Sends
 mod Worked
+pub mod NameTables

@@ -12,12 +12,14 @@ use Rattle.qk_types.specs.Expressions.{expression}
 use Rattle.qk_types.specs.Generators.{generator}
 use Rattle.qk_types.specs.Headers.{Headers, Signature, ModelTypes}
 use Rattle.qk_types.specs.Models.{model_at}
-use Rattle.qk_types.specs.Names.{Item, a_type, a_function, a_generator, a_model, a_property, item_of}
+use Rattle.qk_types.specs.Names.{item_of}
 use Rattle.qk_types.specs.Operators.{Tables, has_type, function_of}
 use Rattle.qk_types.specs.Program.{ProgramData}
 use Rattle.qk_types.specs.Properties.{PropertyData}
 use Rattle.qk_types.specs.Reserved.{Word}
 use Rattle.qk_types.specs.Scopes.{types_of}
+use Rattle.qk_types.specs.declared.names.Item.{Item}
+use Rattle.qk_types.specs.declared.names.Item.TheVariants as items
 
 abbrev pub function_body : Tables → Place → Signature → PlainTrees → Checked FunctionData
 function_body d p s (more params (more t (more body end))) = do
@@ -50,17 +52,17 @@ no_model = record { command = int_type; abstract_ty = int_type; system_ty = int_
 
 -- an item after those before it; each is the next of its sort
 abbrev pub item_body : Tables → ProgramData → Place → Word → Option Item → PlainTrees → Checked ProgramData
-item_body d c p w (Some a_type) parts = Ok c
-item_body d c p w (Some a_function) parts = do
+item_body d c p w (Some items.Kind) parts = Ok c
+item_body d c p w (Some items.Function) parts = do
   f ← function_body d p (function_of d.headers (length c.functions)) parts
   Ok (record c { functions = c.functions ++ f ∷ [] })
-item_body d c p w (Some a_generator) parts = do
+item_body d c p w (Some items.Generator) parts = do
   g ← generator_body d p (generator_of d.headers (length c.generators)) parts
   Ok (record c { generators = c.generators ++ g ∷ [] })
-item_body d c p w (Some a_model) parts = do
+item_body d c p w (Some items.Model) parts = do
   m ← model_at d p (unwrap_or (slice_get d.headers.models (length c.models)) no_model) parts
   Ok (record c { models = c.models ++ m ∷ [] })
-item_body d c p w (Some a_property) parts = do
+item_body d c p w (Some items.Property) parts = do
   r ← property_body d p w parts
   Ok (record c { properties = c.properties ++ r ∷ [] })
 item_body d c p w None parts = refuse 20 p

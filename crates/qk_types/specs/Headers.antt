@@ -5,10 +5,12 @@ use Rattle.qk_syntax.specs.PlainTrees.{PlainTree, number, name, list, PlainTrees
 use Rattle.qk_value.specs.Kinds.{KindData, MakerData}
 use Rattle.qk_value.specs.Types.{TypeData}
 use Rattle.qk_types.specs.Checks.{Checked, ◌>>=◌, ◌>>◌, refuse, check, place_of}
-use Rattle.qk_types.specs.Names.{Declared, Item, a_type, a_function, a_generator, a_model, a_property, item_of}
+use Rattle.qk_types.specs.Names.{Declared, item_of}
 use Rattle.qk_types.specs.Reserved.{Word}
 use Rattle.qk_types.specs.Scopes.{Scope, bind, variable_at}
 use Rattle.qk_types.specs.TypesOf.{type_at, types_at}
+use Rattle.qk_types.specs.declared.names.Item.{Item}
+use Rattle.qk_types.specs.declared.names.Item.TheVariants as items
 
 -- what a function or a generator takes and gives
 pub record Signature : Type 0 where
@@ -103,19 +105,19 @@ property_shape p (more t end) = forall_at t
 property_shape p parts = refuse 23 p
 
 abbrev pub item_header : List Declared → Headers → Place → Word → Option Item → PlainTrees → Checked Headers
-item_header names h p w (Some a_type) parts = do
+item_header names h p w (Some items.Kind) parts = do
   makers ← makers_at names parts
   Ok (record h { kinds = h.kinds ++ record { name = w; makers = makers } ∷ [] })
-item_header names h p w (Some a_function) parts = do
+item_header names h p w (Some items.Function) parts = do
   s ← signature_at names p parts
   Ok (record h { functions = h.functions ++ s ∷ [] })
-item_header names h p w (Some a_generator) parts = do
+item_header names h p w (Some items.Generator) parts = do
   s ← signature_at names p parts
   Ok (record h { generators = h.generators ++ s ∷ [] })
-item_header names h p w (Some a_model) parts = do
+item_header names h p w (Some items.Model) parts = do
   m ← model_types names p parts
   Ok (record h { models = h.models ++ m ∷ [] })
-item_header names h p w (Some a_property) parts = do
+item_header names h p w (Some items.Property) parts = do
   property_shape p parts
   Ok h
 item_header names h p w None parts = refuse 20 p

@@ -15,6 +15,7 @@ pub mod GenView
 pub mod Generators
 pub mod Headers
 pub mod Models
+pub mod NameTable
 pub mod Names
 pub mod Operators
 pub mod Patterns

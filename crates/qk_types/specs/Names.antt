@@ -1,11 +1,14 @@
 -- The first pass: the names of all items and of all makers, which share one space.
 use Rattle.std.specs.Prelude.{ℕ, ◌+◌, Bool, true, false, not, ◌||◌, List, [], ◌∷◌, ◌++◌, codes, bytes_eq, nat_le, nat_lt, Option, Some, None, option_map, find, Ok}
-use Rattle.std.specs.List.{list_any, count_by}
+use Rattle.std.specs.List.{count_by}
+use Rattle.std.specs.Option.{is_some}
 use Rattle.qk_base.specs.declared.place.Place.{Place}
 use Rattle.qk_syntax.specs.Places.{start}
 use Rattle.qk_syntax.specs.PlainTrees.{PlainTree, number, name, list, PlainTrees, end, more, count}
 use Rattle.qk_types.specs.Checks.{Checked, ◌>>=◌, ◌>>◌, refuse, check, place_of}
 use Rattle.qk_types.specs.Reserved.{Word, entry_of, is_reserved}
+use Rattle.qk_types.specs.declared.names.Item.{Item}
+use Rattle.qk_types.specs.declared.names.Item.TheVariants as items
 use Rattle.qk_types.specs.declared.names.Named.{Named}
 use Rattle.qk_types.specs.declared.names.Named.TheVariants as named
 
@@ -18,28 +21,21 @@ abbrev pub named_by : List Declared → Word → Option Named
 named_by names w = option_map (λ d. d.named) (find (λ d. bytes_eq w d.name) names)
 
 abbrev pub is_declared : List Declared → Word → Bool
-is_declared names w = list_any (λ d. bytes_eq w d.name) names
+is_declared names w = is_some (named_by names w)
 
 abbrev pub is_known : List Declared → Word → Bool
 is_known names w = is_reserved w || is_declared names w
 
-pub data Item : Type 0 where
-  a_type : Item
-  a_function : Item
-  a_generator : Item
-  a_model : Item
-  a_property : Item
-
 abbrev pub item_of : Word → Option Item
-item_of = entry_of ((codes "type", a_type) ∷ (codes "fun", a_function) ∷ (codes "gen", a_generator) ∷ (codes "model", a_model) ∷ (codes "prop", a_property) ∷ [])
+item_of = entry_of ((codes "type", items.Kind) ∷ (codes "fun", items.Function) ∷ (codes "gen", items.Generator) ∷ (codes "model", items.Model) ∷ (codes "prop", items.Property) ∷ [])
 
 -- the declaration is of such an item
 abbrev pub is_of : Item → Named → Bool
-is_of a_type (named.Kind n) = true
-is_of a_function (named.Function n) = true
-is_of a_generator (named.Generator n) = true
-is_of a_model (named.Model n) = true
-is_of a_property (named.Property n) = true
+is_of items.Kind (named.Kind n) = true
+is_of items.Function (named.Function n) = true
+is_of items.Generator (named.Generator n) = true
+is_of items.Model (named.Model n) = true
+is_of items.Property (named.Property n) = true
 is_of item n = false
 
 -- how many such items are declared
@@ -48,11 +44,11 @@ number_of names item = count_by (λ d. is_of item d.named) names
 
 -- items are numbered by their sort, from 0
 abbrev pub numbered : Item → ℕ → Named
-numbered a_type n = named.Kind n
-numbered a_function n = named.Function n
-numbered a_generator n = named.Generator n
-numbered a_model n = named.Model n
-numbered a_property n = named.Property n
+numbered items.Kind n = named.Kind n
+numbered items.Function n = named.Function n
+numbered items.Generator n = named.Generator n
+numbered items.Model n = named.Model n
+numbered items.Property n = named.Property n
 
 -- a name that is reserved or was declared before is refused
 abbrev pub declare : List Declared → Place → Word → Named → Checked (List Declared)
@@ -76,7 +72,7 @@ maker_names names kind n (more maker makers) = do
 
 -- what stands after the name of an item
 abbrev pub inner_names : List Declared → Place → ℕ → Item → PlainTrees → Checked (List Declared)
-inner_names names p kind a_type makers = do
+inner_names names p kind items.Kind makers = do
   check (nat_lt 0 (count makers)) 27 p
   maker_names names kind 0 makers
 inner_names names p kind item parts = Ok names
@@ -86,7 +82,7 @@ named_item names p None parts = refuse 20 p
 named_item names p (Some item) end = refuse 23 p
 named_item names p (Some item) (more (name q w) parts) = do
   after ← declare names q w (numbered item (number_of names item))
-  inner_names after p (number_of names a_type) item parts
+  inner_names after p (number_of names items.Kind) item parts
 named_item names p (Some item) (more (number q n) parts) = refuse 20 q
 named_item names p (Some item) (more (list q ts) parts) = refuse 20 q
 
@@ -104,5 +100,5 @@ all_names names (more item items) = do
 abbrev pub names_of : PlainTrees → Checked (List Declared)
 names_of trees = do
   names ← all_names [] trees
-  check (nat_lt 0 (number_of names a_property)) 28 start
+  check (nat_lt 0 (number_of names items.Property)) 28 start
   Ok names

@@ -7,6 +7,7 @@ mod expr;
 mod gen_expr;
 mod names;
 mod property;
+mod reserved;
 #[cfg(test)]
 mod tests;
 
