@@ -1,6 +1,6 @@
 -- The declared names that a table holds.
 use Rattle.std.specs.Prelude.{◌≡◌, ℕ, ◌+◌, List, [], ◌∷◌, ◌++◌, map}
-use Rattle.qk_types.specs.Names.{Declared}
+use Rattle.qk_types.specs.Names.{Declared, number_of}
 use Rattle.qk_types.specs.Reserved.{Word}
 use Rattle.qk_types.specs.declared.names.Counts.{Counts}
 use Rattle.qk_types.specs.declared.names.Item.{Item}
@@ -24,3 +24,11 @@ count_in c items.Property = c.properties
 
 abbrev pub all_in : Counts → ℕ
 all_in c = c.kinds + c.functions + c.generators + c.models + c.properties
+
+-- the counts are those of the declared names
+abbrev pub Counted : Counts → List Declared → Type 0
+Counted c names = (item : Item) → count_in c item ≡ number_of names item
+
+-- no item is declared between
+abbrev pub KeepsCounts : List Declared → List Declared → Type 0
+KeepsCounts before after = (c : Counts) → Counted c before → Counted c after

@@ -56,11 +56,14 @@ declare names p w what = do
   check (not (is_known names w)) 21 p
   Ok (names ++ record { name = w; named = what } ∷ [])
 
-abbrev pub maker_name : List Declared → ℕ → ℕ → PlainTree → Checked (List Declared)
-maker_name names kind n (list p (more (name q w) fields)) = do
+abbrev pub named_maker : List Declared → ℕ → ℕ → Place → Place → Word → PlainTrees → Checked (List Declared)
+named_maker names kind n p q w fields = do
   names ← declare names q w (named.Maker kind n)
   check (nat_le (count fields) 16) 23 p
   Ok names
+
+abbrev pub maker_name : List Declared → ℕ → ℕ → PlainTree → Checked (List Declared)
+maker_name names kind n (list p (more (name q w) fields)) = named_maker names kind n p q w fields
 maker_name names kind n t = refuse 20 (place_of t)
 
 -- makers are numbered within their type, from 0
@@ -77,12 +80,15 @@ inner_names names p kind items.Kind makers = do
   maker_names names kind 0 makers
 inner_names names p kind item parts = Ok names
 
+abbrev pub declared_item : List Declared → Place → Item → Place → Word → PlainTrees → Checked (List Declared)
+declared_item names p item q w parts = do
+  after ← declare names q w (numbered item (number_of names item))
+  inner_names after p (number_of names items.Kind) item parts
+
 abbrev pub named_item : List Declared → Place → Option Item → PlainTrees → Checked (List Declared)
 named_item names p None parts = refuse 20 p
 named_item names p (Some item) end = refuse 23 p
-named_item names p (Some item) (more (name q w) parts) = do
-  after ← declare names q w (numbered item (number_of names item))
-  inner_names after p (number_of names items.Kind) item parts
+named_item names p (Some item) (more (name q w) parts) = declared_item names p item q w parts
 named_item names p (Some item) (more (number q n) parts) = refuse 20 q
 named_item names p (Some item) (more (list q ts) parts) = refuse 20 q
 

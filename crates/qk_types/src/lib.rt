@@ -6,7 +6,9 @@ mod definitions;
 mod expr;
 mod gen_expr;
 mod names;
+mod naming;
 mod property;
+mod refusing;
 mod reserved;
 #[cfg(test)]
 mod tests;

@@ -6,12 +6,13 @@ ghost use Rattle.qk_types.specs.Names.{declare, item_of as item_of_word, named_b
 ghost use Rattle.qk_types.specs.declared.names.Item.{Item};
 ghost use Rattle.qk_types.specs.NameTable.{names_in, count_in, all_in, Declares};
 
+use crate::refusing::{DOUBLED_NAME, refusal};
 use crate::reserved::is_reserved;
 use indexmap::IndexMap;
-use qk_base::{Fault, Memory, Place, Refusal};
+use qk_base::{Fault, Memory, Place};
 use std::alloc::Global;
 
-const DOUBLED_NAME: u16 = 21;
+
 
 /// What a declared name names, by its number. Items are numbered by their sort, makers within their type.
 #[derive(Clone, Copy, Debug, PartialEq, Eq)]
@@ -155,10 +156,7 @@ impl Names {
         ensures refused { IfErr result (λ e. IfRefusal e (λ r. declare (names_in self.old) place name.now named ≡ Err r)) }
     {
         if is_reserved(name) || self.get(name).is_some() {
-            return Err(Fault::Refused(Refusal {
-                code: DOUBLED_NAME,
-                place,
-            }));
+            return Err(refusal(DOUBLED_NAME, place));
         }
         self.add(alloc, name, named)?;
         Ok(())
