@@ -32,6 +32,7 @@ counted_item item before after n w names was same others other = by (sorts item 
   where
     last : number_of (names ++ record { name = w; named = numbered item n } ∷ []) other ≡ number_of names other + cond (is_of other (numbered item n)) 1 0
     last = counted_last names (record { name = w; named = numbered item n }) other
+
     by : ((other ≡ item) × (is_of other (numbered item n) ≡ true)) ⊎ ((other ≡ item → ⊥) × (is_of other (numbered item n) ≡ false)) → count_in after other ≡ number_of (names ++ record { name = w; named = numbered item n } ∷ []) other
     by (inl h) =
         let one : count_in after other ≡ count_in before other + 1 = subst (λ i. count_in after i ≡ count_in before i + 1) (sym h.0) same in
@@ -55,6 +56,7 @@ declare_adds names after p w what = by (is_known names w)
   where
     with_it : List Declared
     with_it = names ++ record { name = w; named = what } ∷ []
+
     by : (b : Bool) → (check (not b) 21 p >> Ok with_it) ≡ Ok after → after ≡ with_it
     by true e = cc
     by false e = sym (ap (λ r. result_unwrap_or r with_it) e)

@@ -5,7 +5,7 @@ use Rattle.qk_syntax.specs.PlainTrees.{PlainTree, number, name, list, PlainTrees
 use Rattle.qk_value.specs.Types.{TypeData, int_type, list_type}
 use Rattle.qk_types.specs.Checks.{Checked, ◌>>=◌, ◌>>◌, refuse, check, place_of}
 use Rattle.qk_types.specs.Generators.{generator}
-use Rattle.qk_types.specs.Headers.{Headers}
+use Rattle.qk_types.specs.Headers.{HeadersData}
 use Rattle.qk_types.specs.Models.{declared_at, function_at, model_number}
 use Rattle.qk_types.specs.Operators.{Tables}
 use Rattle.qk_types.specs.Properties.{BinderData, DrawData, plain, commands}
@@ -23,7 +23,7 @@ pub record TypedDraw : Type 0 where
   pub draw : DrawData
 
 -- the type of a list of commands of a model
-abbrev pub command_list : Headers → ℕ → TypeData
+abbrev pub command_list : HeadersData → ℕ → TypeData
 command_list h m = list_type (unwrap_or (option_map (λ model. model.command) (slice_get h.models m)) int_type)
 
 abbrev pub commands_of : Tables → Place → PlainTrees → Checked TypedDraw

@@ -10,7 +10,7 @@ use Rattle.qk_types.specs.Definitions.{FunctionData, UserGenData}
 use Rattle.qk_types.specs.Drawing.{draws_type, generator_of}
 use Rattle.qk_types.specs.Expressions.{expression}
 use Rattle.qk_types.specs.Generators.{generator}
-use Rattle.qk_types.specs.Headers.{Headers, Signature, ModelTypes}
+use Rattle.qk_types.specs.Headers.{HeadersData, SignatureData, ModelTypesData}
 use Rattle.qk_types.specs.Models.{model_at}
 use Rattle.qk_types.specs.Names.{item_of}
 use Rattle.qk_types.specs.Operators.{Tables, has_type, function_of}
@@ -21,14 +21,14 @@ use Rattle.qk_types.specs.Scopes.{types_of}
 use Rattle.qk_types.specs.declared.names.Item.{Item}
 use Rattle.qk_types.specs.declared.names.Item.TheVariants as items
 
-abbrev pub function_body : Tables → Place → Signature → PlainTrees → Checked FunctionData
+abbrev pub function_body : Tables → Place → SignatureData → PlainTrees → Checked FunctionData
 function_body d p s (more params (more t (more body end))) = do
   body ← expression d s.params body
   has_type s.result body
   Ok (record { params = types_of s.params; result = s.result; body = body.expr })
 function_body d p s parts = refuse 23 p
 
-abbrev pub generator_body : Tables → Place → Signature → PlainTrees → Checked UserGenData
+abbrev pub generator_body : Tables → Place → SignatureData → PlainTrees → Checked UserGenData
 generator_body d p s (more params (more t (more body end))) = do
   body ← generator d s.params body
   draws_type s.result body
@@ -47,7 +47,7 @@ abbrev pub property_body : Tables → Place → Word → PlainTrees → Checked 
 property_body d p w (more (list q (more head parts)) end) = forall_body d q w parts
 property_body d p w parts = refuse 23 p
 
-abbrev pub no_model : ModelTypes
+abbrev pub no_model : ModelTypesData
 no_model = record { command = int_type; abstract_ty = int_type; system_ty = int_type }
 
 -- an item after those before it; each is the next of its sort

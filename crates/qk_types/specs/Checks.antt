@@ -29,4 +29,3 @@ abbrev pub place_of : PlainTree → Place
 place_of (number p n) = p
 place_of (name p w) = p
 place_of (list p ts) = p
-

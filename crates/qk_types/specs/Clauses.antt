@@ -129,8 +129,8 @@ clauses_at d bs before (more t ts) = do
 -- the check of a property at a place, once no clause is left
 abbrev pub closed_clauses : Place → Clauses → Checked CheckData
 closed_clauses p c = elim c.check [
-  None ↦ refuse 23 p
+  | None ↦ refuse 23 p
   | Some what ↦ do
-      check (nat_le (length c.givens) 16 && nat_le (length c.marks) 16) 23 p
-      Ok what
+    check (nat_le (length c.givens) 16 && nat_le (length c.marks) 16) 23 p
+    Ok what
 ]

@@ -4,7 +4,7 @@ use Rattle.qk_base.specs.declared.place.Place.{Place}
 use Rattle.qk_value.specs.Types.{TypeData, int_type, bool_type, list_type, pair_type, made_type, same_type}
 use Rattle.qk_types.specs.Checks.{Checked, ◌>>=◌, ◌>>◌, refuse, check}
 use Rattle.qk_types.specs.GenData.{GenData, gens_of, weighteds_of}
-use Rattle.qk_types.specs.Headers.{Headers, Signature}
+use Rattle.qk_types.specs.Headers.{HeadersData, SignatureData}
 use Rattle.qk_types.specs.Names.{Declared, named_by}
 use Rattle.qk_types.specs.Operators.{Typed, usable, fields_of, no_signature, has_type, have_types, agree, plain}
 use Rattle.qk_types.specs.Reserved.{Word, entry_of}
@@ -71,23 +71,23 @@ gen_atom p w = entry_of ((codes "int", drawn p int_type GenData.any_number) ∷ 
 abbrev pub lone_gen : List Declared → Place → Word → Checked Drawn
 lone_gen names p w = usable names p p w (gen_atom p w)
 
-abbrev pub generator_of : Headers → ℕ → Signature
+abbrev pub generator_of : HeadersData → ℕ → SignatureData
 generator_of h g = unwrap_or (slice_get h.generators g) no_signature
 
 -- it may have so many parts
-abbrev pub takes_values : Headers → OfValues → ℕ → Bool
+abbrev pub takes_values : HeadersData → OfValues → ℕ → Bool
 takes_values h choose n = nat_eq n 2
 takes_values h elements n = nat_lt 0 n
 takes_values h pure n = nat_eq n 1
 takes_values h (call g) n = nat_eq n (length (generator_of h g).params)
 
-abbrev pub takes_draws : Headers → OfDraws → ℕ → Bool
+abbrev pub takes_draws : HeadersData → OfDraws → ℕ → Bool
 takes_draws h list n = nat_eq n 1
 takes_draws h pair n = nat_eq n 2
 takes_draws h one_of n = nat_lt 0 n
 takes_draws h (made k m) n = nat_eq n (length (fields_of h k m))
 
-abbrev pub of_values : Headers → Place → OfValues → List Typed → Checked Drawn
+abbrev pub of_values : HeadersData → Place → OfValues → List Typed → Checked Drawn
 of_values h p choose (a ∷ b ∷ []) = do
   has_type int_type a
   has_type int_type b
@@ -120,7 +120,7 @@ draws_agree t (g ∷ gs) = do
 abbrev pub bare : List Drawn → List GenData
 bare gs = map (λ g. g.gen) gs
 
-abbrev pub of_draws : Headers → Place → OfDraws → List Drawn → Checked Drawn
+abbrev pub of_draws : HeadersData → Place → OfDraws → List Drawn → Checked Drawn
 of_draws h p list (g ∷ []) = Ok (drawn p (list_type g.ty) (GenData.list g.gen))
 of_draws h p pair (f ∷ g ∷ []) = Ok (drawn p (pair_type f.ty g.ty) (GenData.pair f.gen g.gen))
 of_draws h p one_of (g ∷ gs) = do

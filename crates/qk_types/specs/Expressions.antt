@@ -1,5 +1,5 @@
 -- What trees are as expressions. Of each node: its form, its number of parts, its parts left to right, then its types.
-use Rattle.std.specs.Prelude.{◌∷◌, [], List, length, not, codes, nat_eq, true, false, Option, Some, None, Ok}
+use Rattle.std.specs.Prelude.{◌∷◌, ◌++◌, [], List, length, not, codes, nat_eq, true, false, Option, Some, None, Ok}
 use Rattle.qk_base.specs.declared.place.Place.{Place}
 use Rattle.qk_syntax.specs.PlainTrees.{PlainTree, number, name, list, PlainTrees, end, more, count}
 use Rattle.qk_value.specs.Types.{int_type, bool_type, list_type}
@@ -35,22 +35,22 @@ abbrev mutual
   expression d s (list p (more (name q w) parts)) = do
     form ← form_of d.names p q w
     elim form [
-      empty_list ↦ nil_at d p parts
+      | empty_list ↦ nil_at d p parts
       | binding ↦ let_at d s p parts
       | matching ↦ match_at d s p parts
       | operator op ↦ do
-          check (nat_eq (count parts) (arity d.headers op)) 23 p
-          es ← expressions d s parts
-          applied d.headers p op es
+        check (nat_eq (count parts) (arity d.headers op)) 23 p
+        es ← expressions d s [] parts
+        applied d.headers p op es
     ]
   expression d s (list p parts) = refuse 20 p
 
-  pub expressions : Tables → Scope → PlainTrees → Checked (List Typed)
-  expressions d s end = Ok []
-  expressions d s (more t ts) = do
+  -- one after another, after these
+  pub expressions : Tables → Scope → List Typed → PlainTrees → Checked (List Typed)
+  expressions d s before end = Ok before
+  expressions d s before (more t ts) = do
     e ← expression d s t
-    es ← expressions d s ts
-    Ok (e ∷ es)
+    expressions d s (before ++ e ∷ []) ts
 
   pub let_at : Tables → Scope → Place → PlainTrees → Checked Typed
   let_at d s p (more x (more e (more b end))) = do

@@ -8,38 +8,43 @@ use Rattle.qk_types.specs.Checks.{Checked, ◌>>=◌, ◌>>◌, refuse, check, p
 use Rattle.qk_types.specs.Names.{Declared, item_of}
 use Rattle.qk_types.specs.Reserved.{Word}
 use Rattle.qk_types.specs.Scopes.{Scope, bind, variable_at}
-use Rattle.qk_types.specs.TypesOf.{type_at, types_at}
+use Rattle.qk_types.specs.TypesOf.{type_at, types_after}
 use Rattle.qk_types.specs.declared.names.Item.{Item}
 use Rattle.qk_types.specs.declared.names.Item.TheVariants as items
 
 -- what a function or a generator takes and gives
-pub record Signature : Type 0 where
+pub record SignatureData : Type 0 where
   pub params : Scope
   pub result : TypeData
 
-pub record ModelTypes : Type 0 where
+pub record ModelTypesData : Type 0 where
   pub command : TypeData
   pub abstract_ty : TypeData
   pub system_ty : TypeData
 
 -- what is declared, by number
-pub record Headers : Type 0 where
+pub record HeadersData : Type 0 where
   pub kinds : List KindData
-  pub functions : List Signature
-  pub generators : List Signature
-  pub models : List ModelTypes
+  pub functions : List SignatureData
+  pub generators : List SignatureData
+  pub models : List ModelTypesData
 
-abbrev pub no_headers : Headers
+abbrev pub no_headers : HeadersData
 no_headers = record { kinds = []; functions = []; generators = []; models = [] }
 
--- the fields of makers, maker by maker
-abbrev pub makers_at : List Declared → PlainTrees → Checked (List MakerData)
-makers_at names end = Ok []
-makers_at names (more (list p (more (name q w) fields)) makers) = do
-  types ← types_at names fields
-  others ← makers_at names makers
-  Ok (record { name = w; fields = types } ∷ others)
-makers_at names (more t makers) = refuse 20 (place_of t)
+-- the fields of a maker
+abbrev pub maker_at : List Declared → PlainTree → Checked MakerData
+maker_at names (list p (more (name q w) fields)) = do
+  types ← types_after names [] fields
+  Ok (record { name = w; fields = types })
+maker_at names t = refuse 20 (place_of t)
+
+-- makers one after another, after these
+abbrev pub makers_after : List Declared → List MakerData → PlainTrees → Checked (List MakerData)
+makers_after names before end = Ok before
+makers_after names before (more t ts) = do
+  next ← maker_at names t
+  makers_after names (before ++ next ∷ []) ts
 
 -- a parameter after those before it
 abbrev pub parameter_at : List Declared → Scope → PlainTree → Checked Scope
@@ -62,7 +67,7 @@ parameter_list names p (list q ts) = do
 parameter_list names p t = refuse 20 (place_of t)
 
 -- what stands after the name of a function or a generator
-abbrev pub signature_at : List Declared → Place → PlainTrees → Checked Signature
+abbrev pub signature_at : List Declared → Place → PlainTrees → Checked SignatureData
 signature_at names p (more params (more t (more body end))) = do
   params ← parameter_list names p params
   t ← type_at names t
@@ -80,7 +85,7 @@ model_part names head parts (list p (more (name q w) end)) = do
   refuse 23 p
 model_part names head parts t = refuse 20 (place_of t)
 
-abbrev pub model_types : List Declared → Place → PlainTrees → Checked ModelTypes
+abbrev pub model_types : List Declared → Place → PlainTrees → Checked ModelTypesData
 model_types names p (more c (more s (more r end))) = do
   c ← model_part names (codes "command") 1 c
   s ← model_part names (codes "abstract") 3 s
@@ -104,9 +109,9 @@ abbrev pub property_shape : Place → PlainTrees → Checked (Unit {0})
 property_shape p (more t end) = forall_at t
 property_shape p parts = refuse 23 p
 
-abbrev pub item_header : List Declared → Headers → Place → Word → Option Item → PlainTrees → Checked Headers
+abbrev pub item_header : List Declared → HeadersData → Place → Word → Option Item → PlainTrees → Checked HeadersData
 item_header names h p w (Some items.Kind) parts = do
-  makers ← makers_at names parts
+  makers ← makers_after names [] parts
   Ok (record h { kinds = h.kinds ++ record { name = w; makers = makers } ∷ [] })
 item_header names h p w (Some items.Function) parts = do
   s ← signature_at names p parts
@@ -122,15 +127,15 @@ item_header names h p w (Some items.Property) parts = do
   Ok h
 item_header names h p w None parts = refuse 20 p
 
-abbrev pub header_at : List Declared → Headers → PlainTree → Checked Headers
+abbrev pub header_at : List Declared → HeadersData → PlainTree → Checked HeadersData
 header_at names h (list p (more (name q w) (more (name r x) parts))) = item_header names h p x (item_of w) parts
 header_at names h t = refuse 20 (place_of t)
 
-abbrev pub headers_after : List Declared → Headers → PlainTrees → Checked Headers
+abbrev pub headers_after : List Declared → HeadersData → PlainTrees → Checked HeadersData
 headers_after names h end = Ok h
 headers_after names h (more item items) = do
   h ← header_at names h item
   headers_after names h items
 
-abbrev pub headers_of : List Declared → PlainTrees → Checked Headers
+abbrev pub headers_of : List Declared → PlainTrees → Checked HeadersData
 headers_of names trees = headers_after names no_headers trees

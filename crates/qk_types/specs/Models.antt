@@ -8,7 +8,7 @@ use Rattle.qk_types.specs.Definitions.{ModelData}
 use Rattle.qk_types.specs.Drawing.{generator_of}
 use Rattle.qk_types.specs.Expressions.{expression}
 use Rattle.qk_types.specs.ExprData.{ExprData}
-use Rattle.qk_types.specs.Headers.{Headers, Signature, ModelTypes}
+use Rattle.qk_types.specs.Headers.{HeadersData, SignatureData, ModelTypesData}
 use Rattle.qk_types.specs.Names.{named_by}
 use Rattle.qk_types.specs.Operators.{Tables, has_type, function_of}
 use Rattle.qk_types.specs.Scopes.{types_of}
@@ -21,7 +21,7 @@ same_types (t ∷ ts) (u ∷ us) = same_type t u && same_types ts us
 same_types ts us = false
 
 -- it takes values of these types, and gives one of that type
-abbrev pub is_from_to : Signature → List TypeData → TypeData → Bool
+abbrev pub is_from_to : SignatureData → List TypeData → TypeData → Bool
 is_from_to s params result = same_types (types_of s.params) params && same_type s.result result
 
 -- undeclared is 22, of another sort 20
@@ -75,11 +75,11 @@ pub record System : Type 0 where
   pub step : ℕ
   pub post : ℕ
 
-abbrev pub command_at : Tables → ModelTypes → PlainTree → Checked ℕ
+abbrev pub command_at : Tables → ModelTypesData → PlainTree → Checked ℕ
 command_at d m (list p (more head (more c (more g end)))) = generator_at d (m.abstract_ty ∷ []) m.command g
 command_at d m t = refuse 20 (place_of t)
 
-abbrev pub abstract_at : Tables → ModelTypes → PlainTree → Checked Abstract
+abbrev pub abstract_at : Tables → ModelTypesData → PlainTree → Checked Abstract
 abstract_at d m (list p (more head (more s (more init (more pre (more next end)))))) = do
   init ← closed d m.abstract_ty init
   pre ← function_at d (m.abstract_ty ∷ m.command ∷ []) bool_type pre
@@ -87,7 +87,7 @@ abstract_at d m (list p (more head (more s (more init (more pre (more next end))
   Ok (record { init = init; pre = pre; next = next })
 abstract_at d m t = refuse 20 (place_of t)
 
-abbrev pub system_at : Tables → ModelTypes → PlainTree → Checked System
+abbrev pub system_at : Tables → ModelTypesData → PlainTree → Checked System
 system_at d m (list p (more head (more r (more start (more step (more post end)))))) = do
   start ← closed d m.system_ty start
   step ← function_at d (m.system_ty ∷ m.command ∷ []) m.system_ty step
@@ -96,7 +96,7 @@ system_at d m (list p (more head (more r (more start (more step (more post end))
 system_at d m t = refuse 20 (place_of t)
 
 -- what stands after the name of a model with these types
-abbrev pub model_at : Tables → Place → ModelTypes → PlainTrees → Checked ModelData
+abbrev pub model_at : Tables → Place → ModelTypesData → PlainTrees → Checked ModelData
 model_at d p m (more c (more s (more r end))) = do
   maker ← command_at d m c
   s ← abstract_at d m s

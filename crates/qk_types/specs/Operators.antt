@@ -5,7 +5,7 @@ use Rattle.qk_value.specs.Kinds.{maker_of}
 use Rattle.qk_value.specs.Types.{TypeData, int_type, bool_type, list_type, pair_type, made_type, same_type}
 use Rattle.qk_types.specs.Checks.{Checked, ◌>>=◌, ◌>>◌, refuse, check}
 use Rattle.qk_types.specs.ExprData.{ExprData, exprs_of}
-use Rattle.qk_types.specs.Headers.{Headers, Signature}
+use Rattle.qk_types.specs.Headers.{HeadersData, SignatureData}
 use Rattle.qk_types.specs.Names.{Declared, named_by, is_known}
 use Rattle.qk_types.specs.Reserved.{Word, entry_of}
 use Rattle.qk_types.specs.Scopes.{types_of}
@@ -19,7 +19,7 @@ use Rattle.qk_types.specs.declared.names.Named.TheVariants as named
 -- what bodies see: the declared names, and what their headers say
 pub record Tables : Type 0 where
   pub names : List Declared
-  pub headers : Headers
+  pub headers : HeadersData
 
 -- an expression with its type and its place
 pub record Typed : Type 0 where
@@ -72,17 +72,17 @@ form_by names w None = option_and_then declared_form (named_by names w)
 abbrev pub form_of : List Declared → Place → Place → Word → Checked Form
 form_of names p q w = usable names p q w (form_by names w (entry_of forms w))
 
-abbrev pub fields_of : Headers → ℕ → ℕ → List TypeData
+abbrev pub fields_of : HeadersData → ℕ → ℕ → List TypeData
 fields_of h k m = unwrap_or (option_map (λ maker. maker.fields) (maker_of h.kinds k m)) []
 
-abbrev pub no_signature : Signature
+abbrev pub no_signature : SignatureData
 no_signature = record { params = []; result = int_type }
 
-abbrev pub function_of : Headers → ℕ → Signature
+abbrev pub function_of : HeadersData → ℕ → SignatureData
 function_of h f = unwrap_or (slice_get h.functions f) no_signature
 
 -- how many parts it takes
-abbrev pub arity : Headers → Operator → ℕ
+abbrev pub arity : HeadersData → Operator → ℕ
 arity h choice = 3
 arity h (unary op) = 1
 arity h (binary op) = 2
@@ -163,7 +163,7 @@ abbrev pub plain : List Typed → List ExprData
 plain es = map (λ e. e.expr) es
 
 -- the operator at these parts
-abbrev pub applied : Headers → Place → Operator → List Typed → Checked Typed
+abbrev pub applied : HeadersData → Place → Operator → List Typed → Checked Typed
 applied h p choice (c ∷ a ∷ b ∷ []) = do
   has_type bool_type c
   has_type a.ty b

@@ -8,7 +8,7 @@ use Rattle.qk_value.specs.Kinds.{KindData, MakerData}
 use Rattle.qk_value.specs.Types.{TypeData, int_type, bool_type, list_type, pair_type, made_type}
 use Rattle.qk_types.specs.Checks.{Checked, ◌>>=◌, ◌>>◌, refuse, check}
 use Rattle.qk_types.specs.ExprData.{ExprData}
-use Rattle.qk_types.specs.Headers.{Headers}
+use Rattle.qk_types.specs.Headers.{HeadersData}
 use Rattle.qk_types.specs.Names.{Declared, is_known}
 use Rattle.qk_types.specs.Operators.{Typed, has_type}
 use Rattle.qk_types.specs.Reserved.{Word}
@@ -26,11 +26,11 @@ abbrev pub maker_shapes : ℕ → ℕ → List MakerData → List Shape
 maker_shapes k m [] = []
 maker_shapes k m (maker ∷ makers) = record { head = maker.name; pattern = patterns.Maker k m; fields = maker.fields } ∷ maker_shapes k (m + 1) makers
 
-abbrev pub makers_of : Headers → ℕ → List MakerData
+abbrev pub makers_of : HeadersData → ℕ → List MakerData
 makers_of h k = elim (slice_get h.kinds k) [ Some kind ↦ kind.makers | None ↦ [] ]
 
 -- the patterns of a type; numbers and truth values have none
-abbrev pub shapes_of : Headers → TypeData → List Shape
+abbrev pub shapes_of : HeadersData → TypeData → List Shape
 shapes_of h int_type = []
 shapes_of h bool_type = []
 shapes_of h (list_type t) = record { head = codes "nil"; pattern = patterns.Nil; fields = [] } ∷ record { head = codes "cons"; pattern = patterns.Cons; fields = t ∷ list_type t ∷ [] } ∷ []

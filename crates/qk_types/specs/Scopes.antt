@@ -8,12 +8,12 @@ use Rattle.qk_value.specs.Types.{TypeData}
 use Rattle.qk_types.specs.Checks.{Checked, ◌>>=◌, ◌>>◌, refuse, check}
 use Rattle.qk_types.specs.Reserved.{Word}
 
-pub record Variable : Type 0 where
+pub record VariableData : Type 0 where
   pub name : Word
   pub ty : TypeData
 
 abbrev pub Scope : Type 0
-Scope = List Variable
+Scope = List VariableData
 
 abbrev pub bind : Scope → Word → TypeData → Scope
 bind s w t = s ++ record { name = w; ty = t } ∷ []

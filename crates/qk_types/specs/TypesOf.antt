@@ -1,5 +1,5 @@
 -- What trees are as types.
-use Rattle.std.specs.Prelude.{◌∷◌, [], List, codes, bytes_eq, Option, Some, None, Ok}
+use Rattle.std.specs.Prelude.{◌∷◌, ◌++◌, [], List, codes, bytes_eq, Option, Some, None, Ok}
 use Rattle.qk_base.specs.declared.place.Place.{Place}
 use Rattle.qk_syntax.specs.PlainTrees.{PlainTree, number, name, list, PlainTrees, end, more}
 use Rattle.qk_value.specs.Types.{TypeData, int_type, bool_type, list_type, pair_type, made_type}
@@ -45,10 +45,9 @@ abbrev mutual
   formed_type names p (Some f) parts = refuse 23 p
   formed_type names p None parts = refuse 20 p
 
--- types one after another
-abbrev pub types_at : List Declared → PlainTrees → Checked (List TypeData)
-types_at names end = Ok []
-types_at names (more t ts) = do
-  first ← type_at names t
-  others ← types_at names ts
-  Ok (first ∷ others)
+-- types one after another, after these
+abbrev pub types_after : List Declared → List TypeData → PlainTrees → Checked (List TypeData)
+types_after names before end = Ok before
+types_after names before (more t ts) = do
+  next ← type_at names t
+  types_after names (before ++ next ∷ []) ts

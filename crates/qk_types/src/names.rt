@@ -12,8 +12,6 @@ use indexmap::IndexMap;
 use qk_base::{Fault, Memory, Place};
 use std::alloc::Global;
 
-
-
 /// What a declared name names, by its number. Items are numbered by their sort, makers within their type.
 #[derive(Clone, Copy, Debug, PartialEq, Eq)]
 pub enum Named {

@@ -97,7 +97,16 @@ fn named_item(
     };
     match &name.node {
         Node::Name(word) => {
-            declared_item(alloc, names, counts, place, item, name.place, word.as_slice(), parts)
+            declared_item(
+                alloc,
+                names,
+                counts,
+                place,
+                item,
+                name.place,
+                word.as_slice(),
+                parts,
+            )
         }
         _ => Err(refusal(UNKNOWN_FORM, name.place)),
     }
@@ -149,12 +158,7 @@ fn inner_names(
     }
 }
 
-fn maker_names(
-    alloc: Global,
-    names: &mut Names,
-    kind: u32,
-    makers: &[Tree],
-) -> Result<(), Fault>
+fn maker_names(alloc: Global, names: &mut Names, kind: u32, makers: &[Tree]) -> Result<(), Fault>
     ensures ok { OnOk result (names_of_makers (names_in names.old) kind 0 (views makers.now) ≡ Ok (names_in names.new)) }
     ensures counts { OnOk result (KeepsCounts (names_in names.old) (names_in names.new)) }
     ensures refused { IfErr result (λ e. IfRefusal e (λ r. names_of_makers (names_in names.old) kind 0 (views makers.now) ≡ Err r)) }
@@ -206,7 +210,16 @@ fn headed_maker(
     let Node::Name(word) = &head.node else {
         return Err(refusal(UNKNOWN_FORM, place));
     };
-    named_maker(alloc, names, kind, number, place, head.place, word.as_slice(), fields)
+    named_maker(
+        alloc,
+        names,
+        kind,
+        number,
+        place,
+        head.place,
+        word.as_slice(),
+        fields,
+    )
 }
 
 fn named_maker(
