@@ -31,6 +31,11 @@ fits_i64 (negsuc n) = nat_lt n (2 ^ 63)
 abbrev pub number_if_fits : ℤ → Result Data Cause
 number_if_fits z = if fits_i64 z then Ok (int z) else Err Overflow
 
+-- a number that was found, or an overflow
+abbrev pub overflow_unless : Option ℤ → Result Data Cause
+overflow_unless None = Err Overflow
+overflow_unless (Some z) = Ok (int z)
+
 -- the one quotient outside 64 bits: of the least number by -1
 abbrev pub overflows : ℤ → ℤ → Bool
 overflows m n = int_eq m (negsuc (2 ^ 63 - 1)) && int_eq n (negsuc 0)

@@ -13,14 +13,14 @@ use std::sync::Arc;
 /// A small value: of weight 65,536 and depth 200 at most, both kept with it. A contract sees it as its plain data.
 #[cycle(shared)]
 pub struct Shared {
-    node: Node,
-    weight: u64,
-    depth: u64,
+    pub(crate) node: Node,
+    pub(crate) weight: u64,
+    pub(crate) depth: u64,
 }
 
 #[derive(Drop)]
 #[cycle(shared)]
-enum Node {
+pub(crate) enum Node {
     Int(i64),
     Bool(bool),
     Nil,
@@ -35,9 +35,9 @@ enum Node {
 
 #[derive(Drop)]
 #[cycle(shared)]
-struct Cell {
-    first: Shared,
-    second: Shared,
+pub(crate) struct Cell {
+    pub(crate) first: Shared,
+    pub(crate) second: Shared,
 }
 
 impl Model for Shared {
