@@ -1,2 +1,5 @@
 pub mod ListLaws
+pub mod MeaningLaws
 pub mod SharedLaws
+pub mod UnitsLaws
+pub mod WorkLaws

@@ -1,5 +1,5 @@
 -- What an expression means: a value with the units of fuel that are left, or a crash with its cause.
-use Rattle.std.specs.Prelude.{ℕ, zero, suc, ◌^◌, ◌-◌, ◌&&◌, ℤ, pos, negsuc, ◌+ℤ◌, ◌-ℤ◌, ◌*ℤ◌, neg_ℤ, int_div, int_rem, Bool, true, false, not, List, [], ◌∷◌, ◌++◌, Option, Some, None, Result, Ok, Err, nat_lt, if◌then◌else◌, slice_get, unwrap_or}
+use Rattle.std.specs.Prelude.{ℕ, zero, suc, ◌^◌, ◌-◌, ◌&&◌, ℤ, pos, negsuc, ◌+ℤ◌, ◌-ℤ◌, ◌*ℤ◌, neg_ℤ, int_div, int_rem, Bool, true, false, not, List, [], ◌∷◌, ◌++◌, Option, Some, None, Result, Ok, Err, nat_lt, if◌then◌else◌, slice_get, unwrap_or, option_map}
 use Rattle.std.specs.Ordering.{is_eq, is_lt, is_le, int_eq}
 use Rattle.qk_base.specs.declared.outcome.Cause.{Cause}
 use Rattle.qk_base.specs.declared.outcome.Cause.TheVariants.{Overflow, DivZero, Fuel}
@@ -116,16 +116,20 @@ abbrev mutual
   mean_case calls no_case x env u = result (list end) u
   mean_case calls (more_cases pattern body cases) x env u = if fits pattern x then mean calls body (env ++ parts_of x) u else mean_case calls cases x env u
 
--- the meaning of a function's body, whose environment is the arguments
-abbrev pub mean_body : Calls → Option FunctionData → Does Data
+-- the body of a function, by its number
+abbrev pub body_of : List FunctionData → ℕ → Option ExprData
+body_of functions f = option_map (λ function. function.body) (slice_get functions f)
+
+-- the meaning of a body, whose environment is the arguments
+abbrev pub mean_body : Calls → Option ExprData → Does Data
 mean_body calls None env u = result (list end) u
-mean_body calls (Some function) env u = mean calls function.body env u
+mean_body calls (Some body) env u = mean calls body env u
 
 -- what the functions come to in calls that are nested at most n deep
 abbrev pub calls_within : List FunctionData → ℕ → Calls
 calls_within functions n f args zero = crash Fuel
 calls_within functions zero f args (suc u) = crash Fuel
-calls_within functions (suc n) f args (suc u) = mean_body (calls_within functions n) (slice_get functions f) args u
+calls_within functions (suc n) f args (suc u) = mean_body (calls_within functions n) (body_of functions f) args u
 
 -- a call takes one unit, so that calls are nested no deeper than there are units
 unfoldable pub calling : List FunctionData → Calls
@@ -134,3 +138,8 @@ calling functions f args u = calls_within functions u f args u
 -- the meaning of an expression in an environment with units, over a program's functions
 abbrev pub meaning : List FunctionData → ExprData → Does Data
 meaning functions = mean (calling functions)
+
+-- the meaning of a call, which takes one unit and evaluates the body with the arguments as its environment
+abbrev pub called : List FunctionData → ℕ → List Data → ℕ → Evaluated Data
+called functions f args zero = crash Fuel
+called functions f args (suc u) = mean_body (calling functions) (body_of functions f) args u

@@ -1,10 +1,14 @@
 //! Evaluation of expressions with fuel.
 #![tactic(auto)]
 
+mod answer;
 mod conversion;
 mod lists;
+mod machine;
 mod operators;
 mod order;
+mod pending;
 mod shared;
 
+pub use answer::Answer;
 pub use shared::Shared;
