@@ -1,3 +1,4 @@
+pub mod AnswerLaws
 pub mod ListLaws
 pub mod MeaningLaws
 pub mod SharedLaws

@@ -3,6 +3,7 @@
 
 mod answer;
 mod conversion;
+mod evaluation;
 mod lists;
 mod machine;
 mod operators;
@@ -11,4 +12,5 @@ mod pending;
 mod shared;
 
 pub use answer::Answer;
+pub use evaluation::{call, eval};
 pub use shared::Shared;
