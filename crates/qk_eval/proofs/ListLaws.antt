@@ -1,5 +1,5 @@
 -- Laws of lists of values: how many they are, what is joined.
-use Rattle.std.proofs.Common.{◌≡◌, ℕ, suc, ◌+◌, ◌≤◌, ◌<◌, max, List, [], ◌∷◌, ◌++◌, zero, drop, length, min, get_or, refl, IsTrue, ap, ◌∙◌, sym, arith, nat_lt, true, false, Result, Ok, Err}
+use Rattle.std.proofs.Common.{◌≡◌, ℕ, suc, ◌+◌, ◌≤◌, ◌<◌, max, List, [], ◌∷◌, ◌++◌, zero, drop, length, min, get_or, refl, IsTrue, ap, ◌∙◌, arith, Ok, Err}
 use Rattle.std.proofs.lemmas.Bool.Decides.{nat_tests}
 use Rattle.std.specs.Ordering.{nat_cmp}
 use Rattle.qk_base.specs.declared.outcome.Cause.{Cause}

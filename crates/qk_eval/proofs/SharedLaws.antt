@@ -1,7 +1,7 @@
 -- Laws of shared values.
 use Rattle.std.proofs.Common.{◌≡◌, ℕ, ◌+◌, max, List, [], ◌∷◌, ◌++◌, refl, ap, ◌∙◌, arith, ◌<◌, length, take, get_or, IsTrue}
 use Rattle.std.proofs.lemmas.List.{take_more}
-use Rattle.qk_value.specs.Data.{Data, int, bool, list, pair, made, Datas, end, more, datas_of, listed_data}
+use Rattle.qk_value.specs.Data.{Data, int, bool, list, pair, made, datas_of, listed_data}
 use Rattle.qk_value.specs.Measures.{weights, weight, depths, depth}
 use Rattle.qk_eval.specs.Parts.{items_of, is_list}
 

@@ -1,5 +1,5 @@
 -- A meaning looks at calls with no more units than it has, and leaves no more.
-use Rattle.std.proofs.Common.{◌≡◌, ℕ, zero, suc, ◌≤◌, List, [], ◌∷◌, ◌++◌, Bool, true, false, Option, Some, None, Result, Ok, Err, if◌then◌else◌, refl, ap, ◌∙◌, arith, le_refl, le_trans, slice_get, ◌≢◌, ◌-◌, sub-one}
+use Rattle.std.proofs.Common.{◌≡◌, ℕ, zero, suc, ◌≤◌, List, [], ◌∷◌, ◌++◌, Bool, true, false, Option, Some, None, Result, Ok, Err, if◌then◌else◌, refl, ap, ◌∙◌, arith, le_refl, le_trans, ◌≢◌, ◌-◌, sub-one}
 use Rattle.qk_base.specs.declared.outcome.Cause.{Cause}
 use Rattle.qk_base.specs.declared.outcome.Cause.TheVariants.{Fuel}
 use Rattle.qk_types.specs.Definitions.{FunctionData}

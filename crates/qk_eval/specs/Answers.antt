@@ -6,10 +6,16 @@ use Rattle.qk_value.specs.View.{view_value}
 use Rattle.qk_eval.specs.Meaning.{Evaluated, result, crash}
 use Rattle.qk_eval.specs.declared.answer.Answer.{Answer}
 use Rattle.qk_eval.specs.declared.answer.Answer.TheVariants.{Value, Crash}
+use Rattle.qk_eval.specs.declared.ending.Ending.{Ending}
+use Rattle.qk_eval.specs.declared.ending.Ending.TheVariants as endings
 
 abbrev pub said : Answer → Evaluated Data
 said (Value v u) = result (view_value v) u
 said (Crash c) = crash c
+
+abbrev pub ended : Ending → Evaluated Data
+ended (endings.Value x u) = result x u
+ended (endings.Crash c) = crash c
 
 -- a value that is answered is small
 abbrev pub IsSmallAnswer : Answer → Type 0

@@ -9,7 +9,7 @@ use Rattle.qk_types.specs.declared.expr.Op1.{Op1}
 use Rattle.qk_types.specs.declared.expr.Op1.TheVariants.{Neg, Not, Length}
 use Rattle.qk_types.specs.declared.expr.Op2.{Op2}
 use Rattle.qk_types.specs.declared.expr.Op2.TheVariants.{Add, Sub, Mul, Div, Mod, Equal, Less, AtMost, And, Or, Cons, Append, Pair}
-use Rattle.qk_value.specs.Data.{Data, int, bool, list, pair, made, Datas, end, datas_of}
+use Rattle.qk_value.specs.Data.{Data, int, bool, list, pair, made, end, datas_of}
 use Rattle.qk_value.specs.Order.{compare}
 use Rattle.qk_eval.specs.Parts.{number_of, truth_of, items_of, count, joined, before, parts_of, fits, small}
 

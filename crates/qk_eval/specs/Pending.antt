@@ -1,5 +1,5 @@
 -- What pending work comes to.
-use Rattle.std.specs.Prelude.{ℕ, ◌-◌, ◌≤◌, List, [], ◌∷◌, ◌++◌, Result, Ok, Err, if◌then◌else◌, fold, take, length}
+use Rattle.std.specs.Prelude.{ℕ, ◌-◌, List, [], ◌∷◌, ◌++◌, Result, Ok, Err, if◌then◌else◌, fold, take, length}
 use Rattle.qk_base.specs.declared.outcome.Cause.{Cause}
 use Rattle.qk_types.specs.Definitions.{FunctionData}
 use Rattle.qk_types.specs.ExprView.{view_expr, view_exprs, view_cases}

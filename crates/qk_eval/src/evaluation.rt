@@ -2,11 +2,12 @@
 ghost use Rattle.std.specs.Prelude.{◌≡◌, ◌++◌, [], IfOk, map};
 ghost use Rattle.qk_types.specs.ExprView.{view_expr};
 ghost use Rattle.qk_value.specs.View.{view_value};
-ghost use Rattle.qk_eval.specs.Answers.{said, IsSmallAnswer, LeavesWithin, AreSmall};
-ghost use Rattle.qk_eval.specs.Meaning.{meaning, called, result as result_of};
+ghost use Rattle.qk_eval.specs.Answers.{said, ended, IsSmallAnswer, LeavesWithin, AreSmall};
+ghost use Rattle.qk_eval.specs.Meaning.{meaning, called};
 ghost use Rattle.qk_eval.specs.Pending.{outcome};
 
 use crate::answer::Answer;
+use crate::ending::Ending;
 use crate::machine::{evaluate, gathered, go_on};
 use crate::pending::{Control, Then};
 use crate::shared::Shared;
@@ -30,7 +31,8 @@ pub fn eval(
     ensures left { IfOk result (λ answer. LeavesWithin fuel answer) }
 {
     let bound = shared_all(alloc, env.as_slice())?;
-    let answer = run(alloc, core, Control::Evaluate(expr), bound, fuel)?;
+    let ending = run(alloc, core, Control::Evaluate(expr), bound, fuel)?;
+    let answer = answered(&ending, alloc)?;
     Ok(answer)
 }
 
@@ -49,12 +51,42 @@ pub fn call(
     ensures left { IfOk result (λ answer. LeavesWithin fuel answer) }
 {
     let parts = shared_all(alloc, args.as_slice())?;
+    let ending = call_shared(alloc, core, function, parts, fuel)?;
+    let answer = answered(&ending, alloc)?;
+    Ok(answer)
+}
+
+/// `eval` over shared values, without a conversion of the environment or of the value.
+pub fn eval_shared(
+    alloc: Global,
+    core: &Core,
+    expr: &Expr,
+    env: &[Shared],
+    fuel: u32,
+) -> Result<Ending, Memory>
+    ensures { IfOk result (λ ending. ended ending ≡ meaning core.now.functions (view_expr expr.now) env.now fuel) }
+{
+    let bound = copied(alloc, env)?;
+    let ending = run(alloc, core, Control::Evaluate(expr), bound, fuel)?;
+    Ok(ending)
+}
+
+/// `call` over shared values.
+pub fn call_shared(
+    alloc: Global,
+    core: &Core,
+    function: u32,
+    args: Vec<Shared>,
+    fuel: u32,
+) -> Result<Ending, Memory>
+    ensures { IfOk result (λ ending. ended ending ≡ called core.now.functions function args.items fuel) }
+{
     let first = Control::Gathered {
         then: Then::Call(function),
-        parts,
+        parts: args,
     };
-    let answer = run(alloc, core, first, Vec::new(alloc), fuel)?;
-    Ok(answer)
+    let ending = run(alloc, core, first, Vec::new(alloc), fuel)?;
+    Ok(ending)
 }
 
 // The machine, from its first step to its answer.
@@ -64,9 +96,8 @@ fn run<'e>(
     first: Control<'e>,
     env: Vec<Shared>,
     fuel: u32,
-) -> Result<Answer, Memory>
-    ensures meaning { IfOk result (λ answer. said answer ≡ outcome core.now.functions [] env.items first.entry fuel) }
-    ensures small { IfOk result (λ answer. IsSmallAnswer answer) }
+) -> Result<Ending, Memory>
+    ensures { IfOk result (λ ending. ended ending ≡ outcome core.now.functions [] env.items first.entry fuel) }
 {
     let mut bound = env;
     let mut frames = Vec::new(alloc);
@@ -78,23 +109,39 @@ fn run<'e>(
             Control::Gathered { then, parts } => {
                 gathered(alloc, core, then, parts, &mut bound, &mut frames, &mut left)?
             }
-            Control::Crash(cause) => return Ok(Answer::Crash(cause)),
+            Control::Crash(cause) => return Ok(Ending::Crash(cause)),
             Control::Return(value) => match frames.pop() {
-                None => return answered(&value, left, alloc),
+                None => return Ok(Ending::Value { value, left }),
                 Some(frame) => go_on(alloc, frame, value, &mut bound, &mut frames)?,
             },
         };
     }
 }
 
-// A value as an answer.
-fn answered(value: &Shared, left: u32, alloc: Global) -> Result<Answer, Memory>
-    ensures meaning { IfOk result (λ answer. said answer ≡ result_of value.now left) }
+// An ending as an answer.
+fn answered(ending: &Ending, alloc: Global) -> Result<Answer, Memory>
+    ensures meaning { IfOk result (λ answer. said answer ≡ ended ending.now) }
     ensures small { IfOk result (λ answer. IsSmallAnswer answer) }
 {
-    value.is_small();
-    let value = value.to_value(alloc)?;
-    Ok(Answer::Value { value, left })
+    match ending {
+        Ending::Value { value, left } => {
+            value.is_small();
+            let value = value.to_value(alloc)?;
+            Ok(Answer::Value { value, left: *left })
+        }
+        Ending::Crash(cause) => Ok(Answer::Crash(*cause)),
+    }
+}
+
+// The same values, in order.
+fn copied(alloc: Global, env: &[Shared]) -> Result<Vec<Shared>, Memory>
+    ensures { IfOk result (λ all. all.items ≡ env.now) }
+{
+    let mut all = Vec::with_capacity(alloc, env.len())?;
+    for value in env {
+        all.push(value.share()?)?;
+    }
+    Ok(all)
 }
 
 // The shared values of small values, in order.

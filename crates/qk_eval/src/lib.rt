@@ -3,6 +3,7 @@
 
 mod answer;
 mod conversion;
+mod ending;
 mod evaluation;
 mod lists;
 mod machine;
@@ -10,7 +11,10 @@ mod operators;
 mod order;
 mod pending;
 mod shared;
+#[cfg(test)]
+mod tests;
 
 pub use answer::Answer;
-pub use evaluation::{call, eval};
+pub use ending::Ending;
+pub use evaluation::{call, call_shared, eval, eval_shared};
 pub use shared::Shared;

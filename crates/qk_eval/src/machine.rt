@@ -212,7 +212,11 @@ pub(crate) fn go_on<'e>(
 fn body_of(core: &Core, number: u32) -> Option<&Expr>
     ensures { option_map view_expr (option_copied result) ≡ body_found core.now.functions number }
 {
-    if number < core.functions() { Some(&core.function(number).body) } else { None }
+    if number < core.functions() {
+        Some(&core.function(number).body)
+    } else {
+        None
+    }
 }
 
 // A call takes one unit, and the body has the arguments as its environment.

@@ -38,7 +38,10 @@ impl Shared {
                     },
                 ) => {
                     let order = compare_all(parts, other_parts);
-                    return kind.cmp(other_kind).then(maker.cmp(other_maker)).then(order);
+                    return kind
+                        .cmp(other_kind)
+                        .then(maker.cmp(other_maker))
+                        .then(order);
                 }
                 (Node::Int(m), Node::Int(n)) => return m.cmp(n),
                 (Node::Bool(b), Node::Bool(c)) => return b.cmp(c),

@@ -177,11 +177,7 @@ impl Shared {
     }
 
     /// A list with one more item before it, in a step, unless it is too heavy or else too deep.
-    pub fn cons(
-        alloc: Global,
-        first: Shared,
-        rest: Shared,
-    ) -> Result<Result<Shared, Cause>, Memory>
+    pub fn cons(alloc: Global, first: Shared, rest: Shared) -> Result<Result<Shared, Cause>, Memory>
         ensures { IfOk result (λ r. r ≡ small (before first rest)) }
     {
         let second = if rest.is_list() { rest } else { Shared::nil() };

@@ -1,4 +1,4 @@
-use Rattle.std.proofs.Common.{◌≡◌, IsTrue, arith}
+use Rattle.std.proofs.Common.{IsTrue, arith}
 use Rattle.std.proofs.lemmas.Grind.{common_steps}
 use Rattle.qk_eval.specs.Falls.{rest_falls}
 use Rattle.qk_eval.specs.Parts.{items_of, is_list}
