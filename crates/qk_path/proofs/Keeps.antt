@@ -11,7 +11,8 @@ use Rattle.qk_path.specs.Points.{reached, nth, Leads, width}
 use Rattle.qk_path.specs.Rule.{KeptAt}
 use Rattle.qk_path.specs.Views.{past, draws_of, dones_of, parts_of, full_of, IsEmptyView, Tidy, IsOthers, with_draw, with_done, with_step}
 use Rattle.qk_totals.specs.Totals.{total, times, drawn, EachBelow}
-use Rattle.qk_totals.proofs.Totals.{le_total, pair_total, each_other, total_mono, total_set, total_none, kept_pos, moved, each_set, times_append, drawn_append, one_same, one_other, draw_same, draw_elsewhere, draw_other}
+use Rattle.qk_totals.proofs.Totals.{le_total, total_mono, total_set, total_none, kept_pos, moved, each_set, times_append, drawn_append, one_same, one_other, draw_same, draw_elsewhere, draw_other}
+use Rattle.qk_path.proofs.Pairs.{pair_total, each_other}
 use Rattle.qk_path.proofs.Paths.{prefix_zero, prefix_more, prefixes_more, prefix_self, prefix_le, prefix_take, take_more, word_last, word_else, leads_more, past_append, past_low, past_high, past_else, past_none, full_le, full_yes, full_no}
 
 add_zero : (x : ℕ) → x + 0 ≡ x

@@ -1,3 +1,4 @@
+pub mod Pairs
 pub mod Paths
 pub mod Keeps
 pub mod Steps

@@ -22,14 +22,6 @@ module _ {V : Type 0} where
   le_total f (x ∷ xs) zero v e = let is : f x ≡ f v = ap f (some-injective x v e) in omega arith
   le_total f (x ∷ xs) (suc i) v e = let r = le_total f xs i v e in omega arith
 
-  -- two entries are counted beside each other
-  pub pair_total : (f : V → ℕ) (l : List V) (i j : ℕ) (v u : V) → i ≢ j → get_elem? l i ≡ some v → get_elem? l j ≡ some u → f v + f u ≤ total f l
-  pair_total f [] i j v u ne a b = absurd (some-ne-none v (sym a))
-  pair_total f (x ∷ xs) zero zero v u ne a b = absurd (ne refl)
-  pair_total f (x ∷ xs) zero (suc j) v u ne a b = let is : f x ≡ f v = ap f (some-injective x v a) in let r = le_total f xs j u b in omega arith
-  pair_total f (x ∷ xs) (suc i) zero v u ne a b = let is : f x ≡ f u = ap f (some-injective x u b) in let r = le_total f xs i v a in omega arith
-  pair_total f (x ∷ xs) (suc i) (suc j) v u ne a b = let r = pair_total f xs i j v u (λ e. ne (ap suc e)) a b in omega arith
-
   pub total_mono : (f g : V → ℕ) (l : List V) → ((i : ℕ) (v : V) → get_elem? l i ≡ some v → f v ≤ g v) → total f l ≤ total g l
   total_mono f g [] h = omega arith
   total_mono f g (x ∷ xs) h = let one = h 0 x refl in let r = total_mono f g xs (λ i v e. h (suc i) v e) in omega arith
@@ -48,10 +40,6 @@ module _ {V : Type 0} where
 
   pub each_set : (P : V → Type 0) (l : List V) (i : ℕ) (w : V) → ((j : ℕ) (u : V) → get_elem? l j ≡ some u → P u) → P w → (j : ℕ) (u : V) → get_elem? (set l i w) j ≡ some u → P u
   each_set P l i w all one j u e = ⊎_elim (λ (t : (j ≡ i) × (w ≡ u)). subst P t.1 one) (λ (t : (j ≢ i) × (get_elem? l j ≡ some u)). all j u t.1) (at_set l i j w u e)
-
-  -- the same where the old entry at that place need not meet it
-  pub each_other : (P : V → Type 0) (l : List V) (i : ℕ) (w : V) → ((j : ℕ) (u : V) → j ≢ i → get_elem? l j ≡ some u → P u) → P w → (j : ℕ) (u : V) → get_elem? (set l i w) j ≡ some u → P u
-  each_other P l i w all one j u e = ⊎_elim (λ (t : (j ≡ i) × (w ≡ u)). subst P t.1 one) (λ (t : (j ≢ i) × (get_elem? l j ≡ some u)). all j u t.0 t.1) (at_set l i j w u e)
 
   pub each_snoc : (P : V → Type 0) (l : List V) (w : V) → ((j : ℕ) (u : V) → get_elem? l j ≡ some u → P u) → P w → (j : ℕ) (u : V) → get_elem? (l ++ w ∷ []) j ≡ some u → P u
   each_snoc P l w all one j u e = ⊎_elim (λ (t : get_elem? l j ≡ some u). all j u t) (λ (t : w ≡ u). subst P t one) (at_snoc l w u j e)
