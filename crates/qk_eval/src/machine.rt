@@ -4,16 +4,17 @@ ghost use Rattle.std.specs.Option.{option_copied};
 ghost use Rattle.qk_types.specs.Definitions.{FunctionData};
 ghost use Rattle.qk_types.specs.ExprView.{view_expr, view_exprs, view_cases};
 ghost use Rattle.qk_value.specs.Data.{Data, list, end};
-ghost use Rattle.qk_eval.specs.Parts.{parts_of};
-ghost use Rattle.qk_eval.specs.Meaning.{meaning, and_then, mean_all, mean_case, mean_body, calling, body_of as body_found};
-ghost use Rattle.qk_eval.specs.Pending.{control_of, outcome, resume, after, then_does};
+ghost use Rattle.qk_eval.specs.Parts.{parts_of, truth_of};
+ghost use Rattle.qk_eval.specs.Meaning.{meaning, and_then, mean_all, mean_case, mean_body, calling, or_else, decided_by, binary_of, or_crash as or_crash_of, body_of as body_found};
+ghost use Rattle.qk_eval.specs.Pending.{one_of, control_of, outcome, resume, after, then_does};
+ghost use Rattle.qk_eval.specs.declared.pending.Frame.{Frame};
 ghost use Rattle.qk_eval.specs.Work.{size, sizes, case_sizes, frame_size, frames_size, control_size, bodies_size};
 
 use crate::operators::{binary, decided, unary};
 use crate::pending::{Control, Frame, Then};
 use crate::shared::Shared;
 use qk_base::{Cause, Memory};
-use qk_types::{Case, Core, Expr};
+use qk_types::{Case, Core, Expr, Op2};
 use std::alloc::Global;
 use std::mem;
 
@@ -147,6 +148,41 @@ fn or_crash<'e>(given: Result<Shared, Cause>) -> Control<'e>
     }
 }
 
+// The first value of two: it decides alone, or waits for the second.
+fn take_first<'e>(
+    op: Op2,
+    value: Shared,
+    second: &'e Expr,
+    frames: &mut Vec<Frame<'e>>,
+) -> Result<Control<'e>, Memory>
+    ensures smaller { IfOk result (λ next. control_size next + frames_size frames.new.items < size (view_expr second.now) + 2 + frames_size frames.old.items) }
+    ensures same { IfOk result (λ next. (functions : List FunctionData) (env : List Data) (u : ℕ) →
+        outcome functions frames.new.items env next u
+        ≡ and_then (or_else (decided_by op value) (λ u. and_then (meaning functions (view_expr second.now) env u) (λ y v. or_crash_of (binary_of op value y) v)) u) (resume functions frames.old.items env)) }
+{
+    match decided(op, &value) {
+        Some(found) => Ok(Control::Return(Shared::truth(found))),
+        None => {
+            frames.push(Frame::Second(op, value))?;
+            Ok(Control::Evaluate(second))
+        }
+    }
+}
+
+// The one expression where the value is true, the other where it is not.
+fn branch<'e>(value: &Shared, a: &'e Expr, b: &'e Expr) -> Control<'e>
+    ensures smaller { control_size result ≤ size (view_expr a.now) + size (view_expr b.now) }
+    ensures same { (functions : List FunctionData) (frames : List Frame) (env : List Data) (u : ℕ) →
+        outcome functions frames env result u
+        ≡ and_then (one_of (truth_of value.now) (meaning functions (view_expr a.now) env u) (meaning functions (view_expr b.now) env u)) (resume functions frames env) }
+{
+    if value.is_true() {
+        Control::Evaluate(a)
+    } else {
+        Control::Evaluate(b)
+    }
+}
+
 // A case's body, which sees what the pattern adds.
 fn take_case<'e>(
     cases: &'e [Case],
@@ -208,24 +244,15 @@ pub(crate) fn go_on<'e>(
 {
     match frame {
         Frame::Apply(op) => Ok(or_crash(unary(op, &value))),
-        Frame::First(op, b) => match decided(op, &value) {
-            Some(found) => Ok(Control::Return(Shared::truth(found))),
-            None => {
-                frames.push(Frame::Second(op, value))?;
-                Ok(Control::Evaluate(b))
-            }
-        },
+        Frame::First(op, b) => {
+            let next = take_first(op, value, b, frames)?;
+            Ok(next)
+        }
         Frame::Second(op, first) => {
             let given = binary(alloc, op, first, value)?;
             Ok(or_crash(given))
         }
-        Frame::Branch(a, b) => {
-            if value.is_true() {
-                Ok(Control::Evaluate(a))
-            } else {
-                Ok(Control::Evaluate(b))
-            }
-        }
+        Frame::Branch(a, b) => Ok(branch(&value, a, b)),
         Frame::Body(b) => {
             env.push(value)?;
             frames.push(Frame::Unbind(1))?;
