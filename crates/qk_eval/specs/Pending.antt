@@ -1,5 +1,5 @@
 -- What pending work comes to.
-use Rattle.std.specs.Prelude.{ℕ, ◌-◌, List, [], ◌∷◌, ◌++◌, Result, Ok, Err, if◌then◌else◌, fold, take, length}
+use Rattle.std.specs.Prelude.{ℕ, Bool, ◌-◌, List, [], ◌∷◌, ◌++◌, Result, Ok, Err, if◌then◌else◌, fold, take, length}
 use Rattle.qk_base.specs.declared.outcome.Cause.{Cause}
 use Rattle.qk_types.specs.Definitions.{FunctionData}
 use Rattle.qk_types.specs.ExprView.{view_expr, view_exprs, view_cases}
@@ -16,6 +16,10 @@ use Rattle.qk_eval.specs.declared.pending.Control.TheVariants.{Evaluate, Return,
 -- what is done with a value, in an environment with units
 abbrev pub Next : Type 0
 Next = List Data → Data → ℕ → Evaluated Data
+
+-- the first where that is true, else the second
+abbrev pub one_of : Bool → Evaluated Data → Evaluated Data → Evaluated Data
+one_of b r s = if b then r else s
 
 -- all but the last
 abbrev pub front : ℕ → List Data → List Data
