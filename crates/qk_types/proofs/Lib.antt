@@ -1,1 +1,5 @@
 pub mod Sends
+mod Worked
+pub mod NameTables
+pub mod Counting
+pub mod Sequencing

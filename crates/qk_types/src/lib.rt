@@ -5,7 +5,11 @@ mod checked;
 mod definitions;
 mod expr;
 mod gen_expr;
+mod names;
+mod naming;
 mod property;
+mod refusing;
+mod reserved;
 #[cfg(test)]
 mod tests;
 

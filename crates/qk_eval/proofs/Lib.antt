@@ -1,0 +1,6 @@
+pub mod AnswerLaws
+pub mod ListLaws
+pub mod MeaningLaws
+pub mod SharedLaws
+pub mod UnitsLaws
+pub mod WorkLaws

@@ -1,0 +1,101 @@
+//! Walks along shared lists.
+ghost use Rattle.std.specs.Prelude.{◌≡◌, ◌≤◌, ◌<◌, IfOk, pos, IsTrue};
+ghost use Rattle.qk_value.specs.Data.{Data, list, datas_of};
+ghost use Rattle.qk_value.specs.Measures.{depths, IsSmall};
+ghost use Rattle.qk_eval.specs.Parts.{items_of, count, joined, is_list, small};
+
+use crate::shared::{Node, Shared};
+use qk_base::{Cause, Memory};
+use std::alloc::Global;
+
+impl Shared {
+    /// That every such value is small.
+    pub fn is_small(&self)
+        ensures { IsSmall self.now }
+    {
+        let _ = &self.weight;
+    }
+
+    /// The number of items, 0 for what is no list. It costs a step for each.
+    pub fn length(&self) -> i64
+        ensures { result ≡ pos (count (items_of self.now)) }
+    {
+        self.is_small();
+        let mut rest = self;
+        let mut passed = 0u32;
+        'items: loop {
+            match &rest.node {
+                Node::Cons(cell) => {
+                    passed += 1;
+                    rest = &cell.second;
+                }
+                _ => return passed as i64,
+            }
+        }
+    }
+
+    /// The value, or the empty list in place of what is no list.
+    pub fn as_list(self) -> Shared
+        ensures same { items_of result ≡ items_of self }
+        ensures list { IsTrue (is_list result) }
+    {
+        if self.is_list() { self } else { Shared::nil() }
+    }
+
+    /// The items of one list and then of another, unless the list is too heavy or else too deep. It costs a step for each item of
+    /// the first list.
+    pub fn append(
+        alloc: Global,
+        first: &Shared,
+        second: Shared,
+    ) -> Result<Result<Shared, Cause>, Memory>
+        ensures { IfOk result (λ r. r ≡ small (list (joined (items_of first.now) (items_of second)))) }
+    {
+        first.is_small();
+        let items = items(alloc, first)?;
+        let longer = prepend(alloc, items, second.as_list())?;
+        Ok(longer)
+    }
+}
+
+// The items of a list, in order.
+#[tactic(auto, using(crate::proofs::ListLaws::joined_push, crate::proofs::ListLaws::joined_end))]
+fn items(alloc: Global, list: &Shared) -> Result<Vec<Shared>, Memory>
+    ensures { IfOk result (λ all. datas_of all.items ≡ items_of list.now) }
+{
+    let mut all = Vec::new(alloc);
+    let mut rest = list;
+    'items: loop {
+        match &rest.node {
+            Node::Cons(cell) => {
+                all.push(cell.first.share()?)?;
+                rest = &cell.second;
+            }
+            _ => return Ok(all),
+        }
+    }
+}
+
+/// These items and then a list's, unless the list is too heavy. No item is too deep.
+pub(crate) fn prepend(
+    alloc: Global,
+    items: Vec<Shared>,
+    rest: Shared,
+) -> Result<Result<Shared, Cause>, Memory>
+    requires list { IsTrue (is_list rest) }
+    requires depth { depths (datas_of items.items) < 200 }
+    ensures { IfOk result (λ r. r ≡ small (list (joined (datas_of items.items) (items_of rest)))) }
+{
+    let mut before = items;
+    let mut all = rest;
+    'items: loop {
+        all.is_small();
+        match before.pop() {
+            None => return Ok(Ok(all)),
+            Some(item) => match Shared::cons(alloc, item, all)? {
+                Ok(longer) => all = longer,
+                Err(cause) => return Ok(Err(cause)),
+            },
+        }
+    }
+}

@@ -1,0 +1,6 @@
+pub mod Pairs
+pub mod Paths
+pub mod Keeps
+pub mod Steps
+pub mod Walking
+pub mod Closing
