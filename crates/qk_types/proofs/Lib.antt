@@ -3,3 +3,4 @@ mod Worked
 pub mod NameTables
 pub mod Counting
 pub mod Sequencing
+pub mod TypeForms

@@ -1,13 +1,15 @@
 -- The second pass: what the headers of the items say, each type where it stands.
 use Rattle.std.specs.Prelude.{ℕ, ◌&&◌, List, [], ◌∷◌, ◌++◌, map, codes, bytes_eq, nat_eq, nat_le, Option, Some, None, Ok}
+use base.Stored.{Coded, coded×, coded_list, coded_via}
 use Rattle.qk_base.specs.declared.place.Place.{Place}
 use Rattle.qk_syntax.specs.PlainTrees.{PlainTree, number, name, list, PlainTrees, end, more, count}
-use Rattle.qk_value.specs.Kinds.{KindData, MakerData}
+use Rattle.qk_value.specs.Kinds.{KindData, MakerData, kind_code}
+use Rattle.qk_value.specs.Code.{type_code}
 use Rattle.qk_value.specs.Types.{TypeData}
 use Rattle.qk_types.specs.Checks.{Checked, ◌>>=◌, ◌>>◌, refuse, check, place_of}
 use Rattle.qk_types.specs.Names.{Declared, item_of}
 use Rattle.qk_types.specs.Reserved.{Word}
-use Rattle.qk_types.specs.Scopes.{Scope, bind, variable_at}
+use Rattle.qk_types.specs.Scopes.{Scope, variable_code, bind, new_variable}
 use Rattle.qk_types.specs.TypesOf.{type_at, types_after}
 use Rattle.qk_types.specs.declared.names.Item.{Item}
 use Rattle.qk_types.specs.declared.names.Item.TheVariants as items
@@ -29,14 +31,29 @@ pub record HeadersData : Type 0 where
   pub generators : List SignatureData
   pub models : List ModelTypesData
 
+abbrev pub signature_code : Coded SignatureData
+signature_code = coded_via (coded× (coded_list variable_code) type_code) (λ s. (s.params, s.result)) (λ a b e i. record { params = (e i).0; result = (e i).1 })
+
+abbrev pub model_types_code : Coded ModelTypesData
+model_types_code =
+    coded_via (coded× type_code (coded× type_code type_code)) (λ m. (m.command, (m.abstract_ty, m.system_ty))) (λ a b e i. record { command = (e i).0; abstract_ty = (e i).1.0; system_ty = (e i).1.1 })
+
+abbrev pub headers_code : Coded HeadersData
+headers_code =
+    coded_via (coded× (coded× (coded_list kind_code) (coded_list signature_code)) (coded× (coded_list signature_code) (coded_list model_types_code)))
+    (λ h. ((h.kinds, h.functions), (h.generators, h.models))) (λ a b e i. record { kinds = (e i).0.0; functions = (e i).0.1; generators = (e i).1.0; models = (e i).1.1 })
+
 abbrev pub no_headers : HeadersData
 no_headers = record { kinds = []; functions = []; generators = []; models = [] }
 
--- the fields of a maker
-abbrev pub maker_at : List Declared → PlainTree → Checked MakerData
-maker_at names (list p (more (name q w) fields)) = do
+-- a maker of that name, with its fields
+abbrev pub named_maker : List Declared → Word → PlainTrees → Checked MakerData
+named_maker names w fields = do
   types ← types_after names [] fields
   Ok (record { name = w; fields = types })
+
+abbrev pub maker_at : List Declared → PlainTree → Checked MakerData
+maker_at names (list p (more (name q w) fields)) = named_maker names w fields
 maker_at names t = refuse 20 (place_of t)
 
 -- makers one after another, after these
@@ -46,12 +63,15 @@ makers_after names before (more t ts) = do
   next ← maker_at names t
   makers_after names (before ++ next ∷ []) ts
 
--- a parameter after those before it
-abbrev pub parameter_at : List Declared → Scope → PlainTree → Checked Scope
-parameter_at names before (list p (more (name q w) (more t end))) = do
-  w ← variable_at (map (λ v. v.name) before) (name q w)
+abbrev pub named_parameter : List Declared → Scope → Place → Word → PlainTree → Checked Scope
+named_parameter names before p w t = do
+  w ← new_variable (map (λ v. v.name) before) p w
   t ← type_at names t
   Ok (bind before w t)
+
+-- a parameter after those before it
+abbrev pub parameter_at : List Declared → Scope → PlainTree → Checked Scope
+parameter_at names before (list p (more (name q w) (more t end))) = named_parameter names before q w t
 parameter_at names before t = refuse 20 (place_of t)
 
 abbrev pub parameters_at : List Declared → Scope → PlainTrees → Checked Scope

@@ -2,8 +2,10 @@
 use Rattle.std.specs.Prelude.{ℕ, ◌+◌, Bool, not, ◌||◌, List, [], ◌∷◌, ◌++◌, map, codes, bytes_eq, Option, Some, None, Ok, if◌then◌else◌}
 use Rattle.std.specs.List.{list_any}
 use Rattle.std.specs.Option.{option_or}
+use base.Stored.{Coded, coded×, coded_list, coded_ℕ, coded_via}
 use Rattle.qk_base.specs.declared.place.Place.{Place}
 use Rattle.qk_syntax.specs.PlainTrees.{PlainTree, number, name, list}
+use Rattle.qk_value.specs.Code.{type_code}
 use Rattle.qk_value.specs.Types.{TypeData}
 use Rattle.qk_types.specs.Checks.{Checked, ◌>>=◌, ◌>>◌, refuse, check}
 use Rattle.qk_types.specs.Reserved.{Word}
@@ -11,6 +13,9 @@ use Rattle.qk_types.specs.Reserved.{Word}
 pub record VariableData : Type 0 where
   pub name : Word
   pub ty : TypeData
+
+abbrev pub variable_code : Coded VariableData
+variable_code = coded_via (coded× (coded_list coded_ℕ) type_code) (λ v. (v.name, v.ty)) (λ a b e i. record { name = (e i).0; ty = (e i).1 })
 
 abbrev pub Scope : Type 0
 Scope = List VariableData

@@ -8,6 +8,8 @@ use Rattle.qk_types.specs.Names.{Declared, named_by}
 use Rattle.qk_types.specs.Reserved.{Word, entry_of}
 use Rattle.qk_types.specs.declared.names.Named.{Named}
 use Rattle.qk_types.specs.declared.names.Named.TheVariants as named
+use Rattle.qk_types.specs.declared.types_of.Former.{Former}
+use Rattle.qk_types.specs.declared.types_of.Former.TheVariants as formers
 
 abbrev pub user_type : Place → Option Named → Checked TypeData
 user_type p (Some (named.Kind k)) = Ok (made_type k)
@@ -20,12 +22,8 @@ type_by_word names p w None = user_type p (named_by names w)
 abbrev pub named_type : List Declared → Place → Word → Checked TypeData
 named_type names p w = type_by_word names p w (entry_of ((codes "Int", int_type) ∷ (codes "Bool", bool_type) ∷ []) w)
 
-pub data Former : Type 0 where
-  list_of : Former
-  pair_of : Former
-
 abbrev pub former : Word → Option Former
-former = entry_of ((codes "List", list_of) ∷ (codes "Pair", pair_of) ∷ [])
+former = entry_of ((codes "List", formers.List) ∷ (codes "Pair", formers.Pair) ∷ [])
 
 abbrev mutual
   pub type_at : List Declared → PlainTree → Checked TypeData
@@ -35,15 +33,24 @@ abbrev mutual
   type_at names (list p parts) = refuse 20 p
 
   pub formed_type : List Declared → Place → Option Former → PlainTrees → Checked TypeData
-  formed_type names p (Some list_of) (more t end) = do
+  formed_type names p (Some formers.List) (more t end) = do
     item ← type_at names t
     Ok (list_type item)
-  formed_type names p (Some pair_of) (more t (more u end)) = do
+  formed_type names p (Some formers.Pair) (more t (more u end)) = do
     first ← type_at names t
     second ← type_at names u
     Ok (pair_type first second)
   formed_type names p (Some f) parts = refuse 23 p
   formed_type names p None parts = refuse 20 p
+
+-- the former that heads the parts of a list, and the parts after it
+abbrev pub head_former : PlainTrees → Option Former
+head_former (more (name q w) parts) = former w
+head_former parts = None
+
+abbrev pub parts_after : PlainTrees → PlainTrees
+parts_after (more t ts) = ts
+parts_after end = end
 
 -- types one after another, after these
 abbrev pub types_after : List Declared → List TypeData → PlainTrees → Checked (List TypeData)

@@ -12,6 +12,7 @@ mod refusing;
 mod reserved;
 #[cfg(test)]
 mod tests;
+mod types_of;
 
 pub use checked::Core;
 pub use definitions::{Function, ModelDef, UserGen};
