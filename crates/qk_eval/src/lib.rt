@@ -11,8 +11,6 @@ mod operators;
 mod order;
 mod pending;
 mod shared;
-#[cfg(test)]
-mod tests;
 
 pub use answer::Answer;
 pub use ending::Ending;
