@@ -2,8 +2,8 @@
 use Rattle.std.proofs.Common.{◌≡◌, ℕ, zero, suc, ◌≤◌, List, [], ◌∷◌, ◌++◌, Bool, true, false, Option, Some, None, Result, Ok, Err, if◌then◌else◌, refl, ap, ◌∙◌, arith, le_refl, le_trans, ◌≢◌, ◌-◌, sub-one}
 use Rattle.qk_base.specs.declared.outcome.Cause.{Cause}
 use Rattle.qk_base.specs.declared.outcome.Cause.TheVariants.{Fuel}
-use Rattle.qk_types.specs.Definitions.{FunctionData}
-use Rattle.qk_types.specs.ExprData.{ExprData, number, truth, variable, empty, choice, binding, unary, binary, matching, making, call, ExprsData, end as no_expr, more as more_exprs, CasesData, no_case, more_cases}
+use Rattle.qk_core.specs.Definitions.{FunctionData}
+use Rattle.qk_core.specs.ExprData.{ExprData, number, truth, variable, empty, choice, binding, unary, binary, matching, making, call, ExprsData, end as no_expr, more as more_exprs, CasesData, no_case, more_cases}
 use Rattle.qk_value.specs.Data.{Data, made, datas_of}
 use Rattle.qk_eval.specs.Parts.{truth_of, parts_of, fits, small}
 use Rattle.qk_eval.specs.Meaning.{Evaluated, result, crash, and_then, unary_of, binary_of, decided_by, or_crash, or_else, Calls, mean, mean_all, mean_case, mean_body, body_of, calls_within, calling, called, meaning}

@@ -2,8 +2,8 @@
 use Rattle.std.proofs.Common.{◌≡◌, ℕ, zero, suc, ◌+◌, ◌≤◌, List, Some, Option, None, refl, ap, sym, ◌∙◌, arith, slice_get, get_or, unwrap_or, option_map, ◌≢◌, ◌<◌, ◌-◌, ◌*◌, sub-one, suc-mul}
 use Rattle.std.proofs.lemmas.List.Sums.{get_or-le-sum_by}
 use Rattle.std.proofs.lemmas.Option.{slice_get_within, unwrap_or-slice_get}
-use Rattle.qk_types.specs.Definitions.{FunctionData}
-use Rattle.qk_types.specs.ExprData.{ExprData}
+use Rattle.qk_core.specs.Definitions.{FunctionData}
+use Rattle.qk_core.specs.ExprData.{ExprData}
 use Rattle.qk_eval.specs.Meaning.{body_of}
 use Rattle.qk_eval.specs.Work.{size, bodies_size}
 

@@ -3,12 +3,12 @@ use Rattle.std.specs.Prelude.{ℕ, zero, suc, ◌^◌, ◌-◌, ◌&&◌, ℤ, p
 use Rattle.std.specs.Ordering.{is_eq, is_lt, is_le, int_eq}
 use Rattle.qk_base.specs.declared.outcome.Cause.{Cause}
 use Rattle.qk_base.specs.declared.outcome.Cause.TheVariants.{Overflow, DivZero, Fuel}
-use Rattle.qk_types.specs.Definitions.{FunctionData}
-use Rattle.qk_types.specs.ExprData.{ExprData, number, truth, variable, empty, choice, binding, unary, binary, matching, making, call, ExprsData, end as no_expr, more as more_exprs, CasesData, no_case, more_cases}
-use Rattle.qk_types.specs.declared.expr.Op1.{Op1}
-use Rattle.qk_types.specs.declared.expr.Op1.TheVariants.{Neg, Not, Length}
-use Rattle.qk_types.specs.declared.expr.Op2.{Op2}
-use Rattle.qk_types.specs.declared.expr.Op2.TheVariants.{Add, Sub, Mul, Div, Mod, Equal, Less, AtMost, And, Or, Cons, Append, Pair}
+use Rattle.qk_core.specs.Definitions.{FunctionData}
+use Rattle.qk_core.specs.ExprData.{ExprData, number, truth, variable, empty, choice, binding, unary, binary, matching, making, call, ExprsData, end as no_expr, more as more_exprs, CasesData, no_case, more_cases}
+use Rattle.qk_core.specs.declared.expr.Op1.{Op1}
+use Rattle.qk_core.specs.declared.expr.Op1.TheVariants.{Neg, Not, Length}
+use Rattle.qk_core.specs.declared.expr.Op2.{Op2}
+use Rattle.qk_core.specs.declared.expr.Op2.TheVariants.{Add, Sub, Mul, Div, Mod, Equal, Less, AtMost, And, Or, Cons, Append, Pair}
 use Rattle.qk_value.specs.Data.{Data, int, bool, list, pair, made, end, datas_of}
 use Rattle.qk_value.specs.Order.{compare}
 use Rattle.qk_eval.specs.Parts.{number_of, truth_of, items_of, count, joined, before, parts_of, fits, small}

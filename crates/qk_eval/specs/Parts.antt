@@ -2,8 +2,8 @@
 use Rattle.std.specs.Prelude.{ℕ, suc, ℤ, pos, Bool, true, false, ◌&&◌, nat_eq, nat_lt, List, [], ◌∷◌, Result, Ok, Err, if◌then◌else◌}
 use Rattle.qk_base.specs.declared.outcome.Cause.{Cause}
 use Rattle.qk_base.specs.declared.outcome.Cause.TheVariants.{Weight, Depth}
-use Rattle.qk_types.specs.declared.expr.Pattern.{Pattern}
-use Rattle.qk_types.specs.declared.expr.Pattern.TheVariants as patterns
+use Rattle.qk_core.specs.declared.expr.Pattern.{Pattern}
+use Rattle.qk_core.specs.declared.expr.Pattern.TheVariants as patterns
 use Rattle.qk_value.specs.Data.{Data, int, bool, list, pair, made, Datas, end, more, listed_data}
 use Rattle.qk_value.specs.Measures.{weight, depth}
 

@@ -1,8 +1,8 @@
 -- What pending work comes to.
 use Rattle.std.specs.Prelude.{ℕ, Bool, ◌-◌, List, [], ◌∷◌, ◌++◌, Result, Ok, Err, if◌then◌else◌, fold, take, length}
 use Rattle.qk_base.specs.declared.outcome.Cause.{Cause}
-use Rattle.qk_types.specs.Definitions.{FunctionData}
-use Rattle.qk_types.specs.ExprView.{view_expr, view_exprs, view_cases}
+use Rattle.qk_core.specs.Definitions.{FunctionData}
+use Rattle.qk_core.specs.ExprView.{view_expr, view_exprs, view_cases}
 use Rattle.qk_value.specs.Data.{Data, made, datas_of}
 use Rattle.qk_eval.specs.Parts.{truth_of, small}
 use Rattle.qk_eval.specs.Meaning.{Evaluated, result, crash, and_then, unary_of, binary_of, decided_by, or_crash, or_else, meaning, mean_all, mean_case, calling}

@@ -1,8 +1,8 @@
 -- How much work is left, which falls at each step of the machine.
 use Rattle.std.specs.Prelude.{ℕ, ◌+◌, List, sum_by}
-use Rattle.qk_types.specs.Definitions.{FunctionData}
-use Rattle.qk_types.specs.ExprData.{ExprData, number, truth, variable, empty, choice, binding, unary, binary, matching, making, call, ExprsData, end, more, CasesData, no_case, more_cases}
-use Rattle.qk_types.specs.ExprView.{view_expr, view_exprs, view_cases}
+use Rattle.qk_core.specs.Definitions.{FunctionData}
+use Rattle.qk_core.specs.ExprData.{ExprData, number, truth, variable, empty, choice, binding, unary, binary, matching, making, call, ExprsData, end, more, CasesData, no_case, more_cases}
+use Rattle.qk_core.specs.ExprView.{view_expr, view_exprs, view_cases}
 use Rattle.qk_eval.specs.declared.pending.Frame.{Frame}
 use Rattle.qk_eval.specs.declared.pending.Frame.TheVariants.{Apply, First, Second, Branch, Body, Cases, Unbind, Gather, Leave}
 use Rattle.qk_eval.specs.declared.pending.Control.{Control}

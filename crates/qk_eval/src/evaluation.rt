@@ -1,6 +1,6 @@
 //! Evaluation of an expression and of a call.
 ghost use Rattle.std.specs.Prelude.{◌≡◌, ◌++◌, [], IfOk, map};
-ghost use Rattle.qk_types.specs.ExprView.{view_expr};
+ghost use Rattle.qk_core.specs.ExprView.{view_expr};
 ghost use Rattle.qk_value.specs.View.{view_value};
 ghost use Rattle.qk_eval.specs.Answers.{said, ended, IsSmallAnswer, LeavesWithin, AreSmall};
 ghost use Rattle.qk_eval.specs.Meaning.{meaning, called};
@@ -12,7 +12,7 @@ use crate::machine::{evaluate, gathered, go_on};
 use crate::pending::{Control, Then};
 use crate::shared::Shared;
 use qk_base::{Memory, Seq};
-use qk_types::{Core, Expr};
+use qk_core::{Core, Expr};
 use qk_value::Value;
 use std::alloc::Global;
 

@@ -1,8 +1,8 @@
 //! The machine: one function for each kind of step, and its loop.
 ghost use Rattle.std.specs.Prelude.{◌≡◌, ◌<◌, ◌≤◌, ◌+◌, ◌*◌, ◌++◌, ◌∷◌, ℕ, List, IfOk, OnOk, [], IfSome, slice_get, unwrap_or, option_map};
 ghost use Rattle.std.specs.Option.{option_copied};
-ghost use Rattle.qk_types.specs.Definitions.{FunctionData};
-ghost use Rattle.qk_types.specs.ExprView.{view_expr, view_exprs, view_cases};
+ghost use Rattle.qk_core.specs.Definitions.{FunctionData};
+ghost use Rattle.qk_core.specs.ExprView.{view_expr, view_exprs, view_cases};
 ghost use Rattle.qk_value.specs.Data.{Data, list, end};
 ghost use Rattle.qk_eval.specs.Parts.{parts_of, truth_of};
 ghost use Rattle.qk_eval.specs.Meaning.{meaning, and_then, mean_all, mean_case, mean_body, calling, or_else, decided_by, binary_of, or_crash as or_crash_of, body_of as body_found};
@@ -14,7 +14,7 @@ use crate::operators::{binary, decided, unary};
 use crate::pending::{Control, Frame, Then};
 use crate::shared::Shared;
 use qk_base::{Cause, Memory};
-use qk_types::{Case, Core, Expr, Op2};
+use qk_core::{Case, Core, Expr, Op2};
 use std::alloc::Global;
 use std::mem;
 

@@ -5,7 +5,7 @@ ghost use Rattle.qk_eval.specs.Meaning.{unary_of, binary_of, decided_by, overflo
 
 use crate::shared::Shared;
 use qk_base::{Cause, Memory};
-use qk_types::{Op1, Op2};
+use qk_core::{Op1, Op2};
 use std::alloc::Global;
 
 /// What an operator makes of a value, or why it makes nothing.

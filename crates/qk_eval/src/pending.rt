@@ -2,7 +2,7 @@
 
 use crate::shared::Shared;
 use qk_base::Cause;
-use qk_types::{Case, Expr, Op1, Op2};
+use qk_core::{Case, Expr, Op1, Op2};
 
 /// What is done with the values of a list of parts.
 #[derive(Clone, Copy)]

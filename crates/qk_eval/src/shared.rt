@@ -5,7 +5,7 @@ ghost use Rattle.qk_value.specs.Measures.{weight as weight_of, weights as weight
 ghost use Rattle.qk_eval.specs.Parts.{number_of, truth_of, is_list as is_list_of, parts_of, before, small, fits as fits_of};
 
 use qk_base::{Cause, Memory};
-use qk_types::Pattern;
+use qk_core::Pattern;
 use std::alloc::Global;
 use std::marker::Model;
 use std::sync::Arc;

@@ -1,4 +1,3 @@
-pub mod Sends
 mod Worked
 pub mod NameTables
 pub mod Counting

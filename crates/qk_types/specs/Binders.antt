@@ -8,11 +8,11 @@ use Rattle.qk_types.specs.Generators.{generator}
 use Rattle.qk_types.specs.Headers.{HeadersData}
 use Rattle.qk_types.specs.Models.{declared_at, function_at, model_number}
 use Rattle.qk_types.specs.Operators.{Tables}
-use Rattle.qk_types.specs.Properties.{BinderData, DrawData, plain, commands}
+use Rattle.qk_core.specs.Properties.{BinderData, DrawData, plain, commands}
 use Rattle.qk_types.specs.Reserved.{Word}
 use Rattle.qk_types.specs.Scopes.{Scope, variable_at}
-use Rattle.qk_types.specs.declared.property.ShrinkBy.{ShrinkBy}
-use Rattle.qk_types.specs.declared.property.ShrinkBy.TheVariants as shrinks
+use Rattle.qk_core.specs.declared.property.ShrinkBy.{ShrinkBy}
+use Rattle.qk_core.specs.declared.property.ShrinkBy.TheVariants as shrinks
 
 -- the variables that binders are
 abbrev pub scope_of : List BinderData → Scope

@@ -6,7 +6,7 @@ use Rattle.qk_value.specs.Types.{TypeData, int_type}
 use Rattle.qk_types.specs.Binders.{binders_at}
 use Rattle.qk_types.specs.Checks.{Checked, ◌>>=◌, ◌>>◌, refuse, check, place_of}
 use Rattle.qk_types.specs.Clauses.{no_clauses, clauses_at, closed_clauses}
-use Rattle.qk_types.specs.Definitions.{FunctionData, UserGenData}
+use Rattle.qk_core.specs.Definitions.{FunctionData, UserGenData}
 use Rattle.qk_types.specs.Drawing.{draws_type, generator_of}
 use Rattle.qk_types.specs.Expressions.{expression}
 use Rattle.qk_types.specs.Generators.{generator}
@@ -14,8 +14,8 @@ use Rattle.qk_types.specs.Headers.{HeadersData, SignatureData, ModelTypesData}
 use Rattle.qk_types.specs.Models.{model_at}
 use Rattle.qk_types.specs.Names.{item_of}
 use Rattle.qk_types.specs.Operators.{Tables, has_type, function_of}
-use Rattle.qk_types.specs.Program.{ProgramData}
-use Rattle.qk_types.specs.Properties.{PropertyData}
+use Rattle.qk_core.specs.Program.{ProgramData}
+use Rattle.qk_core.specs.Properties.{PropertyData}
 use Rattle.qk_types.specs.Reserved.{Word}
 use Rattle.qk_types.specs.Scopes.{types_of}
 use Rattle.qk_types.specs.declared.names.Item.{Item}

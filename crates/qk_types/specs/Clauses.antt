@@ -6,10 +6,10 @@ use Rattle.qk_syntax.specs.PlainTrees.{PlainTree, number, name, list, PlainTrees
 use Rattle.qk_value.specs.Types.{bool_type}
 use Rattle.qk_types.specs.Binders.{scope_of}
 use Rattle.qk_types.specs.Checks.{Checked, ◌>>=◌, ◌>>◌, refuse, check, place_of}
-use Rattle.qk_types.specs.ExprData.{ExprData}
+use Rattle.qk_core.specs.ExprData.{ExprData}
 use Rattle.qk_types.specs.Expressions.{expression}
 use Rattle.qk_types.specs.Operators.{Tables, Typed, has_type}
-use Rattle.qk_types.specs.Properties.{BinderData, DrawData, plain, commands, CheckData, expression as holds, runs, MarkData, label, collect, classify, tabulate, cover}
+use Rattle.qk_core.specs.Properties.{BinderData, DrawData, plain, commands, CheckData, expression as holds, runs, MarkData, label, collect, classify, tabulate, cover}
 use Rattle.qk_types.specs.Reserved.{Word, entry_of}
 
 -- the clauses so far

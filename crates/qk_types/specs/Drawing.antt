@@ -3,7 +3,7 @@ use Rattle.std.specs.Prelude.{ℕ, Bool, ◌&&◌, List, [], ◌∷◌, map, len
 use Rattle.qk_base.specs.declared.place.Place.{Place}
 use Rattle.qk_value.specs.Types.{TypeData, int_type, bool_type, list_type, pair_type, made_type, same_type}
 use Rattle.qk_types.specs.Checks.{Checked, ◌>>=◌, ◌>>◌, refuse, check}
-use Rattle.qk_types.specs.GenData.{GenData, gens_of, weighteds_of}
+use Rattle.qk_core.specs.GenData.{GenData, gens_of, weighteds_of}
 use Rattle.qk_types.specs.Headers.{HeadersData, SignatureData}
 use Rattle.qk_types.specs.Names.{Declared, named_by}
 use Rattle.qk_types.specs.Operators.{Typed, usable, fields_of, no_signature, has_type, have_types, agree, plain}

@@ -7,7 +7,7 @@ use Rattle.qk_types.specs.Bodies.{bodies_of}
 use Rattle.qk_types.specs.Checks.{Checked, ◌>>=◌}
 use Rattle.qk_types.specs.Headers.{headers_of}
 use Rattle.qk_types.specs.Names.{names_of}
-use Rattle.qk_types.specs.Program.{ProgramData}
+use Rattle.qk_core.specs.Program.{ProgramData}
 
 abbrev pub elaborated : PlainTrees → Checked ProgramData
 elaborated trees = do

@@ -4,7 +4,7 @@ use Rattle.qk_base.specs.declared.place.Place.{Place}
 use Rattle.qk_syntax.specs.PlainTrees.{PlainTree, number, name, list, PlainTrees, end, more, count}
 use Rattle.qk_value.specs.Types.{int_type, bool_type, list_type}
 use Rattle.qk_types.specs.Checks.{Checked, ◌>>=◌, ◌>>◌, refuse, check, place_of}
-use Rattle.qk_types.specs.ExprData.{ExprData, cases_of}
+use Rattle.qk_core.specs.ExprData.{ExprData, cases_of}
 use Rattle.qk_types.specs.Operators.{Tables, Typed, typed, Form, empty_list, binding, matching, operator, usable, form_of, arity, applied}
 use Rattle.qk_types.specs.Patterns.{Shape, shapes_of, has_patterns, shape_at, pattern_variables, Cases, no_cases, is_among, agrees, with_case, are_complete, result_of}
 use Rattle.qk_types.specs.Reserved.{Word, entry_of}

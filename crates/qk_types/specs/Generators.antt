@@ -5,7 +5,7 @@ use Rattle.qk_syntax.specs.PlainTrees.{PlainTree, number, name, list, PlainTrees
 use Rattle.qk_types.specs.Checks.{Checked, ◌>>=◌, ◌>>◌, refuse, check, place_of}
 use Rattle.qk_types.specs.Drawing.{Drawn, drawn, GenForm, values, draws, sized, frequency, bind, Sized, Part, gen_form_of, lone_gen, takes_values, takes_draws, of_values, of_draws, of_sized, of_parts, weight_at}
 use Rattle.qk_types.specs.Expressions.{expression, expressions}
-use Rattle.qk_types.specs.GenData.{GenData}
+use Rattle.qk_core.specs.GenData.{GenData}
 use Rattle.qk_types.specs.Operators.{Tables}
 use Rattle.qk_types.specs.Scopes.{Scope, bind as with_variable, variable_at}
 

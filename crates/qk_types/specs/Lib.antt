@@ -2,16 +2,9 @@ pub mod Binders
 pub mod Bodies
 pub mod Checks
 pub mod Clauses
-pub mod Definitions
 pub mod Drawing
 pub mod Elaboration
-pub mod ExprCode
-pub mod ExprData
-pub mod ExprView
 pub mod Expressions
-pub mod GenCode
-pub mod GenData
-pub mod GenView
 pub mod Generators
 pub mod Headers
 pub mod Models
@@ -19,9 +12,7 @@ pub mod NameTable
 pub mod Names
 pub mod Operators
 pub mod Patterns
-pub mod Program
-pub mod Properties
-pub mod PropertyView
 pub mod Reserved
 pub mod Scopes
+pub mod TablesView
 pub mod TypesOf

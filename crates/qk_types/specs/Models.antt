@@ -4,10 +4,10 @@ use Rattle.qk_base.specs.declared.place.Place.{Place}
 use Rattle.qk_syntax.specs.PlainTrees.{PlainTree, number, name, list, PlainTrees, end, more}
 use Rattle.qk_value.specs.Types.{TypeData, int_type, bool_type, list_type, same_type}
 use Rattle.qk_types.specs.Checks.{Checked, ◌>>=◌, ◌>>◌, refuse, check, place_of}
-use Rattle.qk_types.specs.Definitions.{ModelData}
+use Rattle.qk_core.specs.Definitions.{ModelData}
 use Rattle.qk_types.specs.Drawing.{generator_of}
 use Rattle.qk_types.specs.Expressions.{expression}
-use Rattle.qk_types.specs.ExprData.{ExprData}
+use Rattle.qk_core.specs.ExprData.{ExprData}
 use Rattle.qk_types.specs.Headers.{HeadersData, SignatureData, ModelTypesData}
 use Rattle.qk_types.specs.Names.{named_by}
 use Rattle.qk_types.specs.Operators.{Tables, has_type, function_of}

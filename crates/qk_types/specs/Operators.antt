@@ -4,15 +4,15 @@ use Rattle.qk_base.specs.declared.place.Place.{Place}
 use Rattle.qk_value.specs.Kinds.{maker_of}
 use Rattle.qk_value.specs.Types.{TypeData, int_type, bool_type, list_type, pair_type, made_type, same_type}
 use Rattle.qk_types.specs.Checks.{Checked, ◌>>=◌, ◌>>◌, refuse, check}
-use Rattle.qk_types.specs.ExprData.{ExprData, exprs_of}
+use Rattle.qk_core.specs.ExprData.{ExprData, exprs_of}
 use Rattle.qk_types.specs.Headers.{HeadersData, SignatureData}
 use Rattle.qk_types.specs.Names.{Declared, named_by, is_known}
 use Rattle.qk_types.specs.Reserved.{Word, entry_of}
 use Rattle.qk_types.specs.Scopes.{types_of}
-use Rattle.qk_types.specs.declared.expr.Op1.{Op1}
-use Rattle.qk_types.specs.declared.expr.Op1.TheVariants as ones
-use Rattle.qk_types.specs.declared.expr.Op2.{Op2}
-use Rattle.qk_types.specs.declared.expr.Op2.TheVariants as twos
+use Rattle.qk_core.specs.declared.expr.Op1.{Op1}
+use Rattle.qk_core.specs.declared.expr.Op1.TheVariants as ones
+use Rattle.qk_core.specs.declared.expr.Op2.{Op2}
+use Rattle.qk_core.specs.declared.expr.Op2.TheVariants as twos
 use Rattle.qk_types.specs.declared.names.Named.{Named}
 use Rattle.qk_types.specs.declared.names.Named.TheVariants as named
 

@@ -7,14 +7,14 @@ use Rattle.qk_syntax.specs.PlainTrees.{PlainTrees, end, more}
 use Rattle.qk_value.specs.Kinds.{KindData, MakerData}
 use Rattle.qk_value.specs.Types.{TypeData, int_type, bool_type, list_type, pair_type, made_type}
 use Rattle.qk_types.specs.Checks.{Checked, ◌>>=◌, ◌>>◌, refuse, check}
-use Rattle.qk_types.specs.ExprData.{ExprData}
+use Rattle.qk_core.specs.ExprData.{ExprData}
 use Rattle.qk_types.specs.Headers.{HeadersData}
 use Rattle.qk_types.specs.Names.{Declared, is_known}
 use Rattle.qk_types.specs.Operators.{Typed, has_type}
 use Rattle.qk_types.specs.Reserved.{Word}
 use Rattle.qk_types.specs.Scopes.{variable_at}
-use Rattle.qk_types.specs.declared.expr.Pattern.{Pattern}
-use Rattle.qk_types.specs.declared.expr.Pattern.TheVariants as patterns
+use Rattle.qk_core.specs.declared.expr.Pattern.{Pattern}
+use Rattle.qk_core.specs.declared.expr.Pattern.TheVariants as patterns
 
 -- a pattern: its head, and the types of its variables
 pub record Shape : Type 0 where

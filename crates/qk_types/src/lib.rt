@@ -1,21 +1,16 @@
-//! Checked programs: expressions, generators, properties, and the numbered tables of a program.
+//! Elaboration: the checked program that trees stand for, or the first fault in the written order of checks.
 #![tactic(auto)]
 
-mod checked;
-mod definitions;
-mod expr;
-mod gen_expr;
+mod elaboration;
+mod expressions;
+mod generators;
 mod names;
 mod naming;
-mod property;
 mod refusing;
 mod reserved;
+mod tables;
 #[cfg(test)]
 mod tests;
 mod types_of;
 
-pub use checked::Core;
-pub use definitions::{Function, ModelDef, UserGen};
-pub use expr::{Case, Expr, Op1, Op2, Pattern};
-pub use gen_expr::{GenExpr, Weighted};
-pub use property::{Binder, Check, Draw, Mark, Property, ShrinkBy};
+pub use elaboration::elaborate;

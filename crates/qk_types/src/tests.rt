@@ -1,63 +1,9 @@
-//! A program by hand, each call that reads it, and texts whose names are at fault.
+//! Texts whose names are at fault.
 
 use crate::naming::names_of;
-use crate::{Core, Expr, Function, Op1};
 use qk_base::{Bytes, Fault, Memory, Seq};
 use qk_syntax::{Tree, read};
-use qk_value::{Kinds, Ty};
 use std::alloc::Global;
-use std::test::Fail;
-
-// (fun opposite ((x Int)) Int (neg x))
-fn opposite(alloc: Global) -> Result<Function, Memory> {
-    let mut params = Seq::make(alloc);
-    params.add(Ty::Int)?;
-    let body = Expr::Unary(Op1::Neg, Box::new(alloc, Expr::Var(0))?);
-    Ok(Function {
-        params,
-        result: Ty::Int,
-        body,
-    })
-}
-
-fn with_function(alloc: Global) -> Result<Core, Memory> {
-    let mut functions = Seq::make(alloc);
-    functions.add(opposite(alloc)?)?;
-    let kinds = Kinds {
-        kinds: Seq::make(alloc),
-    };
-    Ok(Core::of_tables(
-        kinds,
-        functions,
-        Seq::make(alloc),
-        Seq::make(alloc),
-        Seq::make(alloc),
-    ))
-}
-
-#[test]
-fn reads_tables(rt: HostRuntime) -> Result<(), Fail> {
-    let core = with_function(rt.alloc())?;
-    assert_eq!(rt; core.functions(), 1);
-    assert_eq!(rt; core.generators(), 0);
-    assert_eq!(rt; core.models(), 0);
-    assert_eq!(rt; core.properties(), 0);
-    assert_eq!(rt; core.kinds().kinds.len(), 0);
-    assert_eq!(rt; core.function(0).params.len(), 1);
-    Ok(())
-}
-
-fn shared<T: Send + Sync>(_: &T) {}
-
-fn crosses(core: &Core) {
-    shared(core)
-}
-
-#[test]
-fn crosses_threads(rt: HostRuntime) -> Result<(), Fail> {
-    crosses(&with_function(rt.alloc())?);
-    Ok(())
-}
 
 /// `named` where the names have no fault, or the refusal as a report prints it.
 fn spoken<T: Drop>(alloc: Global, checked: Result<T, Fault>) -> Result<Bytes, Memory> {

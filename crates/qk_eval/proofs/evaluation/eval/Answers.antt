@@ -1,5 +1,5 @@
 use Rattle.std.proofs.Common.{◌∙◌}
-use Rattle.qk_types.specs.ExprView.{view_expr}
+use Rattle.qk_core.specs.ExprView.{view_expr}
 use Rattle.qk_eval.specs.Meaning.{meaning}
 use Rattle.qk_eval.proofs.AnswerLaws.{left_within}
 use Rattle.qk_eval.proofs.MeaningLaws.{and_then_itself}

@@ -1,7 +1,7 @@
 use Rattle.std.proofs.Common.{arith, ◌≡◌, ◌+◌, Some}
 use Rattle.std.proofs.lemmas.Grind.{common_steps}
 use Rattle.std.proofs.lemmas.List.Sums.{sum_by_push}
-use Rattle.qk_types.specs.ExprView.{view_expr}
+use Rattle.qk_core.specs.ExprView.{view_expr}
 use Rattle.qk_eval.specs.Meaning.{body_of}
 use Rattle.qk_eval.specs.Work.{size, bodies_size, frames_size}
 use Rattle.qk_eval.proofs.WorkLaws.{body_le, unit_pays}

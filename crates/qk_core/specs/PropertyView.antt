@@ -1,13 +1,13 @@
 -- The data that the parts of a property stand for.
-use Rattle.qk_types.specs.ExprView.{view_expr}
-use Rattle.qk_types.specs.GenView.{view_gen}
-use Rattle.qk_types.specs.Properties.{DrawData, plain, commands, CheckData, expression, runs, MarkData, label, collect, classify, tabulate, cover}
-use Rattle.qk_types.specs.declared.property.Draw.{Draw}
-use Rattle.qk_types.specs.declared.property.Draw.TheVariants as draws
-use Rattle.qk_types.specs.declared.property.Check.{Check}
-use Rattle.qk_types.specs.declared.property.Check.TheVariants as checks
-use Rattle.qk_types.specs.declared.property.Mark.{Mark}
-use Rattle.qk_types.specs.declared.property.Mark.TheVariants as marks
+use Rattle.qk_core.specs.ExprView.{view_expr}
+use Rattle.qk_core.specs.GenView.{view_gen}
+use Rattle.qk_core.specs.Properties.{DrawData, plain, commands, CheckData, expression, runs, MarkData, label, collect, classify, tabulate, cover}
+use Rattle.qk_core.specs.declared.property.Draw.{Draw}
+use Rattle.qk_core.specs.declared.property.Draw.TheVariants as draws
+use Rattle.qk_core.specs.declared.property.Check.{Check}
+use Rattle.qk_core.specs.declared.property.Check.TheVariants as checks
+use Rattle.qk_core.specs.declared.property.Mark.{Mark}
+use Rattle.qk_core.specs.declared.property.Mark.TheVariants as marks
 
 abbrev pub view_draw : Draw → DrawData
 view_draw (draws.Plain g) = plain (view_gen g)

@@ -35,14 +35,14 @@ pub struct Binder {
 }
 
 impl Model for Binder {
-    ghost use Rattle.qk_types.specs.Properties.{BinderData, binder_code};
+    ghost use Rattle.qk_core.specs.Properties.{BinderData, binder_code};
 
     ghost Value = { BinderData };
 
     ghost coded = { binder_code };
 
     ghost use Rattle.qk_value.specs.View.{view_type};
-    ghost use Rattle.qk_types.specs.PropertyView.{view_draw};
+    ghost use Rattle.qk_core.specs.PropertyView.{view_draw};
 
     ghost view = { λ b. record { name = b.name.items; ty = view_type b.ty; draw = view_draw b.draw; shrink = b.shrink } };
 }
@@ -81,14 +81,14 @@ pub struct Property {
 
 impl Model for Property {
     ghost use Rattle.std.specs.Prelude.{map};
-    ghost use Rattle.qk_types.specs.Properties.{PropertyData, property_code};
+    ghost use Rattle.qk_core.specs.Properties.{PropertyData, property_code};
 
     ghost Value = { PropertyData };
 
     ghost coded = { property_code };
 
-    ghost use Rattle.qk_types.specs.ExprView.{view_expr};
-    ghost use Rattle.qk_types.specs.PropertyView.{view_check, view_mark};
+    ghost use Rattle.qk_core.specs.ExprView.{view_expr};
+    ghost use Rattle.qk_core.specs.PropertyView.{view_check, view_mark};
 
     ghost view = { λ p. record { name = p.name.items; binders = p.binders.items; givens = map view_expr p.givens.items; check = view_check p.check; marks = map view_mark p.marks.items } };
 }

@@ -4,12 +4,12 @@ use Rattle.std.proofs.Common.{ap}
 use base.Stored.{Coded, Gv, gnum, gcons, coded×, coded_list, coded_ℕ, coded_via}
 use Rattle.qk_value.specs.Code.{first, second, same_number, type_code}
 use Rattle.qk_value.specs.Types.{TypeData}
-use Rattle.qk_types.specs.ExprCode.{expr_code}
-use Rattle.qk_types.specs.ExprData.{ExprData}
-use Rattle.qk_types.specs.GenCode.{exprs_code, gen_code}
-use Rattle.qk_types.specs.GenData.{GenData}
-use Rattle.qk_types.specs.declared.property.ShrinkBy.{ShrinkBy}
-use Rattle.qk_types.specs.declared.property.ShrinkBy.TheVariants as shrinks
+use Rattle.qk_core.specs.ExprCode.{expr_code}
+use Rattle.qk_core.specs.ExprData.{ExprData}
+use Rattle.qk_core.specs.GenCode.{exprs_code, gen_code}
+use Rattle.qk_core.specs.GenData.{GenData}
+use Rattle.qk_core.specs.declared.property.ShrinkBy.{ShrinkBy}
+use Rattle.qk_core.specs.declared.property.ShrinkBy.TheVariants as shrinks
 
 pub data DrawData : Type 0 where
   plain : GenData → DrawData

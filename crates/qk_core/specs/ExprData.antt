@@ -1,9 +1,9 @@
 -- What an expression is, apart from where it lies in memory.
 use Rattle.std.specs.Prelude.{ℕ, ℤ, Bool, List, [], ◌∷◌}
 use Rattle.qk_value.specs.Types.{TypeData}
-use Rattle.qk_types.specs.declared.expr.Op1.{Op1}
-use Rattle.qk_types.specs.declared.expr.Op2.{Op2}
-use Rattle.qk_types.specs.declared.expr.Pattern.{Pattern}
+use Rattle.qk_core.specs.declared.expr.Op1.{Op1}
+use Rattle.qk_core.specs.declared.expr.Op2.{Op2}
+use Rattle.qk_core.specs.declared.expr.Pattern.{Pattern}
 
 mutual
   pub data ExprData : Type 0 where

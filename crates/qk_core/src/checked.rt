@@ -19,7 +19,7 @@ pub struct Core {
 
 impl Model for Core {
     ghost use Rattle.std.specs.Prelude.{◌<◌, ◌^◌, length};
-    ghost use Rattle.qk_types.specs.Program.{ProgramData, program_code};
+    ghost use Rattle.qk_core.specs.Program.{ProgramData, program_code};
 
     ghost Value = { ProgramData };
 

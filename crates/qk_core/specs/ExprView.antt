@@ -1,12 +1,12 @@
 -- The data that an expression stands for.
 use Rattle.std.specs.Prelude.{List, map}
 use Rattle.qk_value.specs.View.{view_type}
-use Rattle.qk_types.specs.ExprData.{ExprData, number, truth, variable, empty, choice, binding, unary, binary, matching, making, call, ExprsData, CasesData, exprs_of, cases_of}
-use Rattle.qk_types.specs.declared.expr.Pattern.{Pattern}
-use Rattle.qk_types.specs.declared.expr.Expr.{Expr, fold-Expr}
-use Rattle.qk_types.specs.declared.expr.Case.{Case}
-use Rattle.qk_types.specs.declared.expr.Expr.TheOpen.{Expr-F, Case-F}
-use Rattle.qk_types.specs.declared.expr.Expr.TheFolds.{fold-Case}
+use Rattle.qk_core.specs.ExprData.{ExprData, number, truth, variable, empty, choice, binding, unary, binary, matching, making, call, ExprsData, CasesData, exprs_of, cases_of}
+use Rattle.qk_core.specs.declared.expr.Pattern.{Pattern}
+use Rattle.qk_core.specs.declared.expr.Expr.{Expr, fold-Expr}
+use Rattle.qk_core.specs.declared.expr.Case.{Case}
+use Rattle.qk_core.specs.declared.expr.Expr.TheOpen.{Expr-F, Case-F}
+use Rattle.qk_core.specs.declared.expr.Expr.TheFolds.{fold-Case}
 
 -- one level, with each expression inside already seen as its data
 abbrev pub expr_step : Expr-F ExprData (Pattern × ExprData) → ExprData

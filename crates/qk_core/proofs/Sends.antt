@@ -3,16 +3,16 @@ use Rattle.std.proofs.Crossing.{crosses}
 use denote.Param.Send.{IsSend, IsSync, sendable, view_send, view_sync}
 use denote.Param.SendFields.{declared_send, declared_sync}
 use Rattle.qk_value.proofs.ty.Ty.TheLaws.TheKnot as types
-use Rattle.qk_types.proofs.expr.Expr.TheLaws.TheKnot as exprs
-use Rattle.qk_types.proofs.gen_expr.GenExpr.TheLaws.TheKnot as gens
-use Rattle.qk_types.specs.contracts.checked.Core as core
-use Rattle.qk_types.specs.contracts.checked.Core.TheInside as core_inside
-use Rattle.qk_types.specs.contracts.property.Property as property
-use Rattle.qk_types.specs.contracts.property.Property.TheInside as property_inside
-use Rattle.qk_types.specs.declared.checked.Core.{Core, the_code}
-use Rattle.qk_types.specs.declared.checked.Core.TheView.{view, invariant}
-use Rattle.qk_types.specs.declared.property.Property as properties
-use Rattle.qk_types.specs.declared.property.Property.TheView as seen
+use Rattle.qk_core.proofs.expr.Expr.TheLaws.TheKnot as exprs
+use Rattle.qk_core.proofs.gen_expr.GenExpr.TheLaws.TheKnot as gens
+use Rattle.qk_core.specs.contracts.checked.Core as core
+use Rattle.qk_core.specs.contracts.checked.Core.TheInside as core_inside
+use Rattle.qk_core.specs.contracts.property.Property as property
+use Rattle.qk_core.specs.contracts.property.Property.TheInside as property_inside
+use Rattle.qk_core.specs.declared.checked.Core.{Core, the_code}
+use Rattle.qk_core.specs.declared.checked.Core.TheView.{view, invariant}
+use Rattle.qk_core.specs.declared.property.Property as properties
+use Rattle.qk_core.specs.declared.property.Property.TheView as seen
 
 ruleset crossing = (crosses, exprs.crosses, gens.crosses, types.crosses, sendable)
 

@@ -1,11 +1,11 @@
 -- The data that a generator stands for.
 use Rattle.std.specs.Prelude.{ℕ, List, map}
-use Rattle.qk_types.specs.ExprView.{view_expr}
-use Rattle.qk_types.specs.GenData.{GenData, any_number, any_truth, size, choose, list, vector, pair, elements, one_of, frequency, resize, bind, pure, making, call, GensData, WeightedsData, gens_of, weighteds_of}
-use Rattle.qk_types.specs.declared.gen_expr.GenExpr.{GenExpr, fold-GenExpr}
-use Rattle.qk_types.specs.declared.gen_expr.Weighted.{Weighted}
-use Rattle.qk_types.specs.declared.gen_expr.GenExpr.TheOpen.{GenExpr-F, Weighted-F}
-use Rattle.qk_types.specs.declared.gen_expr.GenExpr.TheFolds.{fold-Weighted}
+use Rattle.qk_core.specs.ExprView.{view_expr}
+use Rattle.qk_core.specs.GenData.{GenData, any_number, any_truth, size, choose, list, vector, pair, elements, one_of, frequency, resize, bind, pure, making, call, GensData, WeightedsData, gens_of, weighteds_of}
+use Rattle.qk_core.specs.declared.gen_expr.GenExpr.{GenExpr, fold-GenExpr}
+use Rattle.qk_core.specs.declared.gen_expr.Weighted.{Weighted}
+use Rattle.qk_core.specs.declared.gen_expr.GenExpr.TheOpen.{GenExpr-F, Weighted-F}
+use Rattle.qk_core.specs.declared.gen_expr.GenExpr.TheFolds.{fold-Weighted}
 
 -- one level, with each generator inside already seen as its data
 abbrev pub gen_step : GenExpr-F GenData (ℕ × GenData) → GenData

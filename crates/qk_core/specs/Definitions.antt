@@ -3,10 +3,10 @@ use Rattle.std.specs.Prelude.{ℕ, List}
 use base.Stored.{Coded, coded×, coded_list, coded_ℕ, coded_via}
 use Rattle.qk_value.specs.Code.{type_code}
 use Rattle.qk_value.specs.Types.{TypeData}
-use Rattle.qk_types.specs.ExprCode.{expr_code}
-use Rattle.qk_types.specs.ExprData.{ExprData}
-use Rattle.qk_types.specs.GenCode.{gen_code}
-use Rattle.qk_types.specs.GenData.{GenData}
+use Rattle.qk_core.specs.ExprCode.{expr_code}
+use Rattle.qk_core.specs.ExprData.{ExprData}
+use Rattle.qk_core.specs.GenCode.{gen_code}
+use Rattle.qk_core.specs.GenData.{GenData}
 
 pub record FunctionData : Type 0 where
   pub params : List TypeData

@@ -16,14 +16,14 @@ pub struct Function {
 
 impl Model for Function {
     ghost use Rattle.std.specs.Prelude.{map};
-    ghost use Rattle.qk_types.specs.Definitions.{FunctionData, function_code};
+    ghost use Rattle.qk_core.specs.Definitions.{FunctionData, function_code};
 
     ghost Value = { FunctionData };
 
     ghost coded = { function_code };
 
     ghost use Rattle.qk_value.specs.View.{view_type};
-    ghost use Rattle.qk_types.specs.ExprView.{view_expr};
+    ghost use Rattle.qk_core.specs.ExprView.{view_expr};
 
     ghost view = { λ f. record { params = map view_type f.params.items; result = view_type f.result; body = view_expr f.body } };
 }
@@ -38,14 +38,14 @@ pub struct UserGen {
 
 impl Model for UserGen {
     ghost use Rattle.std.specs.Prelude.{map};
-    ghost use Rattle.qk_types.specs.Definitions.{UserGenData, user_gen_code};
+    ghost use Rattle.qk_core.specs.Definitions.{UserGenData, user_gen_code};
 
     ghost Value = { UserGenData };
 
     ghost coded = { user_gen_code };
 
     ghost use Rattle.qk_value.specs.View.{view_type};
-    ghost use Rattle.qk_types.specs.GenView.{view_gen};
+    ghost use Rattle.qk_core.specs.GenView.{view_gen};
 
     ghost view = { λ g. record { params = map view_type g.params.items; result = view_type g.result; body = view_gen g.body } };
 }
@@ -67,14 +67,14 @@ pub struct ModelDef {
 }
 
 impl Model for ModelDef {
-    ghost use Rattle.qk_types.specs.Definitions.{ModelData, model_code};
+    ghost use Rattle.qk_core.specs.Definitions.{ModelData, model_code};
 
     ghost Value = { ModelData };
 
     ghost coded = { model_code };
 
     ghost use Rattle.qk_value.specs.View.{view_type};
-    ghost use Rattle.qk_types.specs.ExprView.{view_expr};
+    ghost use Rattle.qk_core.specs.ExprView.{view_expr};
 
     ghost view = { λ m. record { command = view_type m.command; maker = m.maker; abstract_ty = view_type m.abstract_ty; init = view_expr m.init; pre = m.pre; next = m.next; system_ty = view_type m.system_ty; start = view_expr m.start; step = m.step; post = m.post } };
 }

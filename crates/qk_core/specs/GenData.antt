@@ -1,6 +1,6 @@
 -- What a generator is, apart from where it lies in memory.
 use Rattle.std.specs.Prelude.{ℕ, List, [], ◌∷◌}
-use Rattle.qk_types.specs.ExprData.{ExprData}
+use Rattle.qk_core.specs.ExprData.{ExprData}
 
 mutual
   pub data GenData : Type 0 where

@@ -3,9 +3,9 @@ use Rattle.std.specs.Prelude.{◌≡◌, ℕ, false, nat_eq, List, refl}
 use Rattle.std.proofs.Common.{ap, arith}
 use base.Stored.{Coded, Gv, gnil, gnum, gcons, coded_list}
 use Rattle.qk_value.specs.Code.{first, second, same_number}
-use Rattle.qk_types.specs.ExprCode.{expr_code}
-use Rattle.qk_types.specs.ExprData.{ExprData}
-use Rattle.qk_types.specs.GenData.{GenData, any_number, any_truth, size, choose, list, vector, pair, elements, one_of, frequency, resize, bind, pure, making, call, GensData, end, more, WeightedsData, no_weighted, more_weighted}
+use Rattle.qk_core.specs.ExprCode.{expr_code}
+use Rattle.qk_core.specs.ExprData.{ExprData}
+use Rattle.qk_core.specs.GenData.{GenData, any_number, any_truth, size, choose, list, vector, pair, elements, one_of, frequency, resize, bind, pure, making, call, GensData, end, more, WeightedsData, no_weighted, more_weighted}
 
 unlike : (m n : ℕ) → gnum m ≡ gnum n → nat_eq m n ≡ false → ⊥
 unlike m n e apart = let same : m ≡ n = same_number m n e in grind arith

@@ -2,8 +2,8 @@
 use Rattle.std.specs.Prelude.{List}
 use base.Stored.{Coded, coded×, coded_list, coded_via}
 use Rattle.qk_value.specs.Kinds.{KindData, kind_code}
-use Rattle.qk_types.specs.Definitions.{FunctionData, function_code, UserGenData, user_gen_code, ModelData, model_code}
-use Rattle.qk_types.specs.Properties.{PropertyData, property_code}
+use Rattle.qk_core.specs.Definitions.{FunctionData, function_code, UserGenData, user_gen_code, ModelData, model_code}
+use Rattle.qk_core.specs.Properties.{PropertyData, property_code}
 
 pub record ProgramData : Type 0 where
   pub kinds : List KindData

@@ -3,13 +3,13 @@ use Rattle.std.specs.Prelude.{◌≡◌, ℕ, refl}
 use Rattle.std.proofs.Common.{ap}
 use base.Stored.{Coded, Gv, gnil, gnum, gcons, coded_bool, coded_ℤ}
 use Rattle.qk_value.specs.Code.{first, second, same_number, type_code}
-use Rattle.qk_types.specs.ExprData.{ExprData, number, truth, variable, empty, choice, binding, unary, binary, matching, making, call, ExprsData, end, more, CasesData, no_case, more_cases}
-use Rattle.qk_types.specs.declared.expr.Op1.{Op1}
-use Rattle.qk_types.specs.declared.expr.Op1.TheVariants as ones
-use Rattle.qk_types.specs.declared.expr.Op2.{Op2}
-use Rattle.qk_types.specs.declared.expr.Op2.TheVariants as twos
-use Rattle.qk_types.specs.declared.expr.Pattern.{Pattern}
-use Rattle.qk_types.specs.declared.expr.Pattern.TheVariants as patterns
+use Rattle.qk_core.specs.ExprData.{ExprData, number, truth, variable, empty, choice, binding, unary, binary, matching, making, call, ExprsData, end, more, CasesData, no_case, more_cases}
+use Rattle.qk_core.specs.declared.expr.Op1.{Op1}
+use Rattle.qk_core.specs.declared.expr.Op1.TheVariants as ones
+use Rattle.qk_core.specs.declared.expr.Op2.{Op2}
+use Rattle.qk_core.specs.declared.expr.Op2.TheVariants as twos
+use Rattle.qk_core.specs.declared.expr.Pattern.{Pattern}
+use Rattle.qk_core.specs.declared.expr.Pattern.TheVariants as patterns
 
 abbrev pub op1_number : Op1 → ℕ
 op1_number ones.Neg = 0

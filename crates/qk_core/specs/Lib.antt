@@ -1,0 +1,10 @@
+pub mod Definitions
+pub mod ExprCode
+pub mod ExprData
+pub mod ExprView
+pub mod GenCode
+pub mod GenData
+pub mod GenView
+pub mod Program
+pub mod Properties
+pub mod PropertyView
