@@ -11,9 +11,10 @@ use Rattle.qk_syntax.specs.PlainTrees.{PlainTrees}
 use Rattle.qk_syntax.specs.Spelling.{Spells}
 use Rattle.qk_syntax.specs.TextFault.{text_fault, fault}
 use Rattle.qk_syntax.proofs.TextRead.{spelled_has_no_fault, one_spelling}
+use Rattle.qk_types.specs.Elaboration.{type_fault}
 use Rattle.qk_engine.specs.Attempt.{drawn}
 use Rattle.qk_engine.specs.Form.{IsForm}
-use Rattle.qk_engine.specs.Reply.{FileReplies, TreesReply, replies_to, tells, IsReply, IsRun, run_of, report, seed}
+use Rattle.qk_engine.specs.Reply.{FileReplies, TreesReply, ProgramReply, replies_to, tells, IsReply, IsRun, run_of, report, seed}
 use Rattle.qk_engine.specs.Report.{status_of, block, last_line, totals}
 use Rattle.qk_engine.specs.declared.form.Form.{Form}
 use Rattle.qk_engine.proofs.Texts.{join}
@@ -46,22 +47,29 @@ finish_is_run finish.Passed = inl refl
 finish_is_run finish.GaveUp = inr refl
 finish_is_run (finish.Failed k size cause) = inr refl
 
--- trees of the form are run
-trees_are_run : (trees : PlainTrees) (form : Form) (s : Status) (text : List ℕ) → IsForm trees form → TreesReply trees s text → IsRun s
-trees_are_run trees form s text is said = elim said as (λ _. IsRun s) [
+-- a program of the form is run
+program_is_run : (trees : PlainTrees) (form : Form) (s : Status) (text : List ℕ) → IsForm trees form → ProgramReply trees s text → IsRun s
+program_is_run trees form s text is said = elim said as (λ _. IsRun s) [
   | inl run ↦ subst IsRun (sym run.2) (finish_is_run (run_of run.0).finish)
   | inr refused ↦ absurd (refused.0 form is)
 ]
 
--- a file that spells trees of the form is run
-pub form_is_run : (bytes : List ℕ) (trees : PlainTrees) (form : Form) (s : Status) (text : List ℕ) → Spells bytes trees → IsForm trees form → FileReplies bytes s text → IsRun s
-form_is_run bytes trees form s text spells is said = elim said as (λ _. IsRun s) [
-  | inl refused ↦ absurd (let both = sym (spelled_has_no_fault bytes trees spells) ∙ refused.1 in cc)
-  | inr read ↦ trees_are_run trees form s text is (subst (λ (us : PlainTrees). TreesReply us s text) (one_spelling bytes read.0 trees read.1 spells) read.2)
+-- trees without fault that are of the form are run
+trees_are_run : (trees : PlainTrees) (form : Form) (s : Status) (text : List ℕ) → type_fault trees ≡ None → IsForm trees form → TreesReply trees s text → IsRun s
+trees_are_run trees form s text good is said = elim said as (λ _. IsRun s) [
+  | inl refused ↦ absurd (let both = sym good ∙ refused.1 in cc)
+  | inr program ↦ program_is_run trees form s text is program.1
 ]
 
-trees_are_replied : (trees : PlainTrees) (s : Status) (text : List ℕ) → TreesReply trees s text → IsReply s
-trees_are_replied trees s text said = elim said as (λ _. IsReply s) [
+-- a file that spells trees of the form is run
+pub form_is_run : (bytes : List ℕ) (trees : PlainTrees) (form : Form) (s : Status) (text : List ℕ) → Spells bytes trees → type_fault trees ≡ None → IsForm trees form → FileReplies bytes s text → IsRun s
+form_is_run bytes trees form s text spells good is said = elim said as (λ _. IsRun s) [
+  | inl refused ↦ absurd (let both = sym (spelled_has_no_fault bytes trees spells) ∙ refused.1 in cc)
+  | inr read ↦ trees_are_run trees form s text good is (subst (λ (us : PlainTrees). TreesReply us s text) (one_spelling bytes read.0 trees read.1 spells) read.2)
+]
+
+program_is_replied : (trees : PlainTrees) (s : Status) (text : List ℕ) → ProgramReply trees s text → IsReply s
+program_is_replied trees s text said = elim said as (λ _. IsReply s) [
   | inl run ↦ subst IsReply (sym run.2) (run_is_reply (run_of run.0).finish)
   | inr refused ↦ subst IsReply (sym refused.1.0) tt
 ]
@@ -70,6 +78,12 @@ trees_are_replied trees s text said = elim said as (λ _. IsReply s) [
     run_is_reply finish.Passed = tt
     run_is_reply finish.GaveUp = tt
     run_is_reply (finish.Failed k size cause) = tt
+
+trees_are_replied : (trees : PlainTrees) (s : Status) (text : List ℕ) → TreesReply trees s text → IsReply s
+trees_are_replied trees s text said = elim said as (λ _. IsReply s) [
+  | inl refused ↦ subst IsReply (sym refused.2.0) tt
+  | inr program ↦ program_is_replied trees s text program.1
+]
 
 pub file_is_reply : (bytes : List ℕ) (s : Status) (text : List ℕ) → FileReplies bytes s text → IsReply s
 file_is_reply bytes s text said = elim said as (λ _. IsReply s) [
@@ -98,8 +112,8 @@ report_is form f c ended t0 t1 t2 is_finish is_state is_ended begins mid last =
 
 -- the reply to words that name a file of the form tells of a run
 pub named_is_run : (holds : List ℕ → Option (List ℕ)) (named : Option (List ℕ)) (name bytes : List ℕ) (trees : PlainTrees) (form : Form) (s : Status) (text : List ℕ)
-    → named ≡ Some name → holds name ≡ Some bytes → Spells bytes trees → IsForm trees form → ((b : List ℕ) → tells holds named b → replies_to named b s text) → IsRun s
-named_is_run holds None name bytes trees form s text named held spells is said = cc
-named_is_run holds (Some n) name bytes trees form s text named held spells is said =
+    → named ≡ Some name → holds name ≡ Some bytes → Spells bytes trees → type_fault trees ≡ None → IsForm trees form → ((b : List ℕ) → tells holds named b → replies_to named b s text) → IsRun s
+named_is_run holds None name bytes trees form s text named held spells good is said = cc
+named_is_run holds (Some n) name bytes trees form s text named held spells good is said =
     let same : n ≡ name = cc in
-    form_is_run bytes trees form s text spells is (said bytes (ap holds same ∙ held))
+    form_is_run bytes trees form s text spells good is (said bytes (ap holds same ∙ held))

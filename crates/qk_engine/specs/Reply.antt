@@ -10,6 +10,7 @@ use Rattle.qk_base.specs.declared.place.Refusal.{Refusal}
 use Rattle.qk_syntax.specs.PlainTrees.{PlainTrees}
 use Rattle.qk_syntax.specs.Spelling.{Spells}
 use Rattle.qk_syntax.specs.TextFault.{text_fault}
+use Rattle.qk_types.specs.Elaboration.{type_fault}
 use Rattle.qk_engine.specs.declared.form.Form.{Form}
 use Rattle.qk_engine.specs.Attempt.{drawn, outcome}
 use Rattle.qk_engine.specs.Form.{IsForm}
@@ -40,18 +41,24 @@ usage = line (codes "usage: quicker [options] FILE")
 abbrev pub refusal : Refusal → List ℕ
 refusal r = line (named (codes "refused ") r.code ++ named (codes " at ") r.place.line ++ named (codes ":") r.place.column)
 
--- a file that can be read and is not of the form that is built
+-- a program that is not of the form that is built
 abbrev pub not_built : Refusal
 not_built = record { code = 19; place = record { line = 1; column = 1 } }
 
 abbrev pub Refuses : Refusal → Status → List ℕ → Type 0
 Refuses r s text = (s ≡ status.Refused) × (text ≡ refusal r)
 
--- the answers to the trees of a file: the report of the form that they are of, or a refusal where they are of none
-abbrev pub TreesReply : PlainTrees → Status → List ℕ → Type 0
-TreesReply trees s text =
+-- the answers to a program's trees: the report of the form that they are of, or a refusal where they are of none
+abbrev pub ProgramReply : PlainTrees → Status → List ℕ → Type 0
+ProgramReply trees s text =
     ((form : Form) × IsForm trees form × (s ≡ status_of (run_of form).finish) × (text ≡ report form))
     ⊎ (((form : Form) → IsForm trees form → ⊥) × Refuses not_built s text)
+
+-- the answers to the trees of a file: the refusal of the first check that does not hold of them, or those to a program
+abbrev pub TreesReply : PlainTrees → Status → List ℕ → Type 0
+TreesReply trees s text =
+    ((r : Refusal) × (type_fault trees ≡ Some r) × Refuses r s text)
+    ⊎ ((type_fault trees ≡ None) × ProgramReply trees s text)
 
 -- the answers to a file: the refusal of its fault, or those to the trees that it spells
 abbrev pub FileReplies : List ℕ → Status → List ℕ → Type 0

@@ -5,6 +5,8 @@ mod attempting;
 mod form;
 mod made;
 mod parts;
+#[cfg(test)]
+mod program_tests;
 mod replying;
 mod report;
 mod sequential;

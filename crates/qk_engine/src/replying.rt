@@ -1,8 +1,9 @@
 //! The reply to a file.
-ghost use Rattle.std.specs.Prelude.{◌≡◌, IfOk};
-ghost use Rattle.qk_engine.specs.Reply.{FileReplies, TreesReply, Refuses, usage, report, run_of};
+ghost use Rattle.std.specs.Prelude.{◌≡◌, ◌≤◌, IfOk, length};
+ghost use Rattle.qk_engine.specs.Reply.{FileReplies, TreesReply, ProgramReply, Refuses, usage, report, run_of};
 ghost use Rattle.qk_engine.specs.Report.{status_of as status_after};
 ghost use Rattle.qk_syntax.specs.View.{views};
+ghost use Rattle.qk_types.specs.Elaboration.{type_fault};
 ghost use Rattle.qk_base.specs.declared.status.Status.TheVariants as status;
 
 use crate::form::{Form, form_of};
@@ -10,9 +11,10 @@ use crate::made::Made;
 use crate::report::{put_block, status_of, totals};
 use crate::sequential::run_attempts;
 use crate::text::{put, put_last_line, put_refusal};
-use qk_base::{Bytes, Fault, Memory, Place, Refusal, Status};
+use qk_base::{Bytes, Fault, Memory, Place, Refusal, Seq, Status};
 use qk_schedule::Limits;
 use qk_syntax::{Tree, read};
+use qk_types::elaborate;
 use std::alloc::Global;
 
 /// The limits of every run.
@@ -23,7 +25,7 @@ const LIMITS: Limits = Limits {
     covers: 0,
 };
 
-/// The refusal of a file that is not of the form that is built.
+/// The refusal of a program that is not of the form that is built.
 const NOT_BUILT: Refusal = Refusal {
     code: 19,
     place: Place { line: 1, column: 1 },
@@ -49,15 +51,38 @@ pub fn file_reply(alloc: Global, bytes: &[u8]) -> Result<Made, Memory>
     ensures { IfOk result (λ made. FileReplies bytes.now made.status made.text.items) }
 {
     match read(alloc, bytes) {
-        Ok(trees) => trees_reply(alloc, trees.as_slice()),
+        Ok(trees) => trees_reply(alloc, &trees),
         Err(Fault::Memory) => Err(Memory),
         Err(Fault::Refused(refusal)) => refusal_reply(alloc, refusal),
     }
 }
 
 // The reply to the trees of a file.
-fn trees_reply(alloc: Global, trees: &[Tree]) -> Result<Made, Memory>
-    ensures { IfOk result (λ made. TreesReply (views trees.now) made.status made.text.items) }
+fn trees_reply(alloc: Global, trees: &Seq<Tree>) -> Result<Made, Memory>
+    requires { length trees.now.items ≤ 1000 }
+    ensures { IfOk result (λ made. TreesReply (views trees.now.items) made.status made.text.items) }
+{
+    match refusal_of(alloc, trees)? {
+        Some(refusal) => refusal_reply(alloc, refusal),
+        None => program_reply(alloc, trees.as_slice()),
+    }
+}
+
+// The first check that does not hold of the trees, if there is one.
+fn refusal_of(alloc: Global, trees: &Seq<Tree>) -> Result<Option<Refusal>, Memory>
+    requires { length trees.now.items ≤ 1000 }
+    ensures { IfOk result (λ refusal. type_fault (views trees.now.items) ≡ refusal) }
+{
+    match elaborate(alloc, trees) {
+        Ok(_) => Ok(None),
+        Err(Fault::Memory) => Err(Memory),
+        Err(Fault::Refused(refusal)) => Ok(Some(refusal)),
+    }
+}
+
+// The reply to a program.
+fn program_reply(alloc: Global, trees: &[Tree]) -> Result<Made, Memory>
+    ensures { IfOk result (λ made. ProgramReply (views trees.now) made.status made.text.items) }
 {
     match form_of(trees) {
         None => refusal_reply(alloc, NOT_BUILT),

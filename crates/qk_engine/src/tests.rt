@@ -21,20 +21,20 @@ properties: 1, passed 0, failed 1, gave up 0
 
 // what a run is to meet: the most bytes of a read and of a write, and the call of each that fails, if one does
 #[derive(Clone, Copy, Debug)]
-struct Setting {
+pub struct Setting {
     most: usize,
     read_fails: Option<u64>,
     write_fails: Option<u64>,
 }
 
-const CALM: Setting = Setting {
+pub const CALM: Setting = Setting {
     most: 4096,
     read_fails: None,
     write_fails: None,
 };
 
 // Runs the words over a library that holds the file `f`.
-fn answers<R: Threads + Sync + Abort + AllocGlobal>(
+pub fn answers<R: Threads + Sync + Abort + AllocGlobal>(
     rt: &R,
     words: &[&str],
     file: &str,
@@ -75,81 +75,74 @@ properties: 1, passed 1, failed 0, gave up 0
 
 const NOT_BUILT: &str = "refused 19 at 1:1\n";
 
+const NO_PROPERTY: &str = "refused 28 at 1:1\n";
+
 const USAGE: &str = "usage: quicker [options] FILE\n";
 
 const TWO_BLANKS: &str = "(prop  b (forall ((x (choose 0 0))) (check (< x 1))))";
 
+// Each file with its status and its text.
+const FILES: [(&str, u8, &str); 18] = [
+    (FAILING, 1, FAILING_REPORT),
+    (
+        "(prop b (forall ((x (choose 0 0))) (check (< x 1))))",
+        0,
+        PASSED,
+    ),
+    (
+        "(prop b (forall ((x (choose 0 0))) (check (< x 1))))\n",
+        0,
+        PASSED,
+    ),
+    (TWO_BLANKS, 0, PASSED),
+    (
+        "; a comment with ) and \u{e9}\n(prop b(forall((x(choose -0 00)))\r\n\t(check(< x 1))));",
+        0,
+        PASSED,
+    ),
+    (
+        "(prop b (forall ((x (choose -9223372036854775808 -009223372036854775808))) (check (< x 1))))",
+        0,
+        PASSED,
+    ),
+    (
+        "(prop B (forall ((x (choose 0 0))) (check (< x 1))))",
+        3,
+        NOT_BUILT,
+    ),
+    (
+        "(prop bb (forall ((x (choose 0 0))) (check (< x 1))))",
+        3,
+        NOT_BUILT,
+    ),
+    (
+        "(prop b (forall ((y (choose 0 0))) (check (< y 1))))",
+        3,
+        NOT_BUILT,
+    ),
+    (
+        "(prop b (forall ((x (choose 0 0))) (check (< 1 x))))",
+        3,
+        NOT_BUILT,
+    ),
+    ("", 3, NO_PROPERTY),
+    ("(prop a))", 3, "refused 3 at 1:9\n"),
+    ("(prop a", 3, "refused 4 at 1:1\n"),
+    (
+        "(prop a (forall ((x (choose 0 9223372036854775808))) (check true)))",
+        3,
+        "refused 6 at 1:31\n",
+    ),
+    (")\"", 3, "refused 3 at 1:1\n"),
+    ("\")", 3, "refused 2 at 1:1\n"),
+    ("12a", 3, "refused 5 at 1:1\n"),
+    ("(a\n  -1x)", 3, "refused 5 at 2:3\n"),
+];
+
 #[test]
 fn files(rt: HostRuntime) -> Result<(), Fail> {
-    let f = ["f"].as_slice();
-    let files = [
-        (FAILING, 1, FAILING_REPORT),
-        (
-            "(prop b (forall ((x (choose 0 0))) (check (< x 1))))",
-            0,
-            PASSED,
-        ),
-        (
-            "(prop b (forall ((x (choose 0 0))) (check (< x 1))))\n",
-            0,
-            PASSED,
-        ),
-        (TWO_BLANKS, 0, PASSED),
-        (
-            "; a comment with ) and \u{e9}\n(prop b(forall((x(choose -0 00)))\r\n\t(check(< x 1))));",
-            0,
-            PASSED,
-        ),
-        (
-            "(prop b (forall ((x (choose -9223372036854775808 -009223372036854775808))) (check (< x 1))))",
-            0,
-            PASSED,
-        ),
-        (
-            "(prop B (forall ((x (choose 0 0))) (check (< x 1))))",
-            3,
-            NOT_BUILT,
-        ),
-        (
-            "(prop bb (forall ((x (choose 0 0))) (check (< x 1))))",
-            3,
-            NOT_BUILT,
-        ),
-        (
-            "(prop b (forall ((x (choose 0 0))) (check (< x 1)))) b",
-            3,
-            NOT_BUILT,
-        ),
-        (
-            "(prop b (forall ((y (choose 0 0))) (check (< x 1))))",
-            3,
-            NOT_BUILT,
-        ),
-        (
-            "(prop b (forall ((x (choose 0))) (check (< x 1))))",
-            3,
-            NOT_BUILT,
-        ),
-        (
-            "(prop b (forall ((x (choose 0 0))) (check (< x b))))",
-            3,
-            NOT_BUILT,
-        ),
-        ("", 3, NOT_BUILT),
-        ("(prop a))", 3, "refused 3 at 1:9\n"),
-        ("(prop a", 3, "refused 4 at 1:1\n"),
-        (
-            "(prop a (forall ((x (choose 0 9223372036854775808))) (check true)))",
-            3,
-            "refused 6 at 1:31\n",
-        ),
-        (")\"", 3, "refused 3 at 1:1\n"),
-        ("\")", 3, "refused 2 at 1:1\n"),
-        ("12a", 3, "refused 5 at 1:1\n"),
-        ("(a\n  -1x)", 3, "refused 5 at 2:3\n"),
-    ];
-    for (file, status, text) in files {
-        answers(&rt, f, file, &CALM, status, text)?;
+    for (file, status, text) in FILES {
+        answers(&rt, ["f"].as_slice(), file, &CALM, status, text)?;
     }
     Ok(())
 }
@@ -161,7 +154,7 @@ fn long_files(rt: HostRuntime) -> Result<(), Fail> {
     for _ in 0..1_048_576u32 {
         blanks.push(' ')?;
     }
-    answers(&rt, f, blanks.as_str(), &CALM, 3, NOT_BUILT)?;
+    answers(&rt, f, blanks.as_str(), &CALM, 3, NO_PROPERTY)?;
     blanks.push(' ')?;
     answers(&rt, f, blanks.as_str(), &CALM, 3, "refused 1 at 1:1\n")?;
     let mut opened = String::new(rt.alloc());
@@ -175,14 +168,14 @@ fn long_files(rt: HostRuntime) -> Result<(), Fail> {
     for _ in 0..1000u32 {
         items.push_str("0 ")?;
     }
-    answers(&rt, f, items.as_str(), &CALM, 3, NOT_BUILT)?;
+    answers(&rt, f, items.as_str(), &CALM, 3, "refused 20 at 1:1\n")?;
     items.push_str("0 ")?;
     answers(&rt, f, items.as_str(), &CALM, 3, "refused 9 at 1:2001\n")?;
     let mut name = String::new(rt.alloc());
     for _ in 0..64u32 {
         name.push('a')?;
     }
-    answers(&rt, f, name.as_str(), &CALM, 3, NOT_BUILT)?;
+    answers(&rt, f, name.as_str(), &CALM, 3, "refused 20 at 1:1\n")?;
     name.push('a')?;
     answers(&rt, f, name.as_str(), &CALM, 3, "refused 7 at 1:1\n")
 }

@@ -9,6 +9,7 @@ ghost use Rattle.qk_engine.specs.Words.{file_named};
 ghost use Rattle.qk_engine.specs.declared.form.Form.{Form as Plain};
 ghost use Rattle.qk_syntax.specs.PlainTrees.{PlainTrees};
 ghost use Rattle.qk_syntax.specs.Spelling.{Spells};
+ghost use Rattle.qk_types.specs.Elaboration.{type_fault};
 
 use crate::made::Made;
 use crate::replying::{file_reply, usage_reply};
@@ -51,7 +52,7 @@ pub fn run<R: Threads + Sync, L: Library, K: Sink, G: Gate>(
     // Where nothing fails, there is a reply, or memory is wanted.
     ensures answers { ((name : List ℕ) → file_named (map string_bytes words.now) ≡ Some name → HasRisen (L.faults library.old name) (L.faults library.new name) → ⊥)
         → (HasRisen (K.faults sink.old) (K.faults sink.new) → ⊥) → IsReply result ⊎ (result ≡ Status.Memory) }
-    ensures completes { (name bytes : List ℕ) (trees : PlainTrees) (form : Plain) → file_named (map string_bytes words.now) ≡ Some name → L.holds library.old name ≡ Some bytes → Spells bytes trees → IsForm trees form
+    ensures completes { (name bytes : List ℕ) (trees : PlainTrees) (form : Plain) → file_named (map string_bytes words.now) ≡ Some name → L.holds library.old name ≡ Some bytes → Spells bytes trees → type_fault trees ≡ None → IsForm trees form
         → (HasRisen (L.faults library.old name) (L.faults library.new name) → ⊥) → (HasRisen (K.faults sink.old) (K.faults sink.new) → ⊥) → IsRun result ⊎ (result ≡ Status.Memory) }
 {
     match run_into(rt, alloc, words, library, gate) {
