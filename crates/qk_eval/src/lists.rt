@@ -34,6 +34,13 @@ impl Shared {
         }
     }
 
+    /// The items of a list, in order, and none of what is no list. It costs a step for each.
+    pub fn items(&self, alloc: Global) -> Result<Vec<Shared>, Memory>
+        ensures { IfOk result (λ all. datas_of all.items ≡ items_of self.now) }
+    {
+        items_of(alloc, self)
+    }
+
     /// The value, or the empty list in place of what is no list.
     pub fn as_list(self) -> Shared
         ensures same { items_of result ≡ items_of self }
@@ -52,15 +59,14 @@ impl Shared {
         ensures { IfOk result (λ r. r ≡ small (list (joined (items_of first.now) (items_of second)))) }
     {
         first.is_small();
-        let items = items(alloc, first)?;
+        let items = first.items(alloc)?;
         let longer = prepend(alloc, items, second.as_list())?;
         Ok(longer)
     }
 }
 
-// The items of a list, in order.
 #[tactic(auto, using(crate::proofs::ListLaws::joined_push, crate::proofs::ListLaws::joined_end))]
-fn items(alloc: Global, list: &Shared) -> Result<Vec<Shared>, Memory>
+fn items_of(alloc: Global, list: &Shared) -> Result<Vec<Shared>, Memory>
     ensures { IfOk result (λ all. datas_of all.items ≡ items_of list.now) }
 {
     let mut all = Vec::new(alloc);

@@ -1,7 +1,7 @@
 use Rattle.std.proofs.Common.{◌≡◌}
 use Rattle.qk_value.specs.Data.{datas_of}
 use Rattle.qk_eval.specs.Parts.{items_of, joined}
-use Rattle.qk_eval.proofs.lists.items.Given as goal
+use Rattle.qk_eval.proofs.lists.items_of.Given as goal
 
 abbrev pub invariant-items : goal.invariant-items
 invariant-items l = joined (datas_of l.all.items) (items_of l.rest) ≡ items_of l.fn.list
