@@ -11,6 +11,8 @@ mod operators;
 mod order;
 mod pending;
 mod shared;
+#[cfg(test)]
+mod tests;
 
 pub use answer::Answer;
 pub use ending::Ending;

@@ -1,0 +1,4 @@
+//! Drawing of values by generators, with fuel.
+#![tactic(auto)]
+
+pub use qk_eval::Answer;
