@@ -1,2 +1,3 @@
+pub mod CommandSizes
 pub mod Notes
 pub mod Stepping

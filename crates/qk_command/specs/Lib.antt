@@ -1,7 +1,10 @@
+pub mod Attempt
 pub mod CommandLists
 pub mod CommandListsView
+pub mod Drawing
 pub mod Judging
 pub mod KeepingSteps
 pub mod Marking
 pub mod NotesView
 pub mod Steps
+pub mod TurnsView

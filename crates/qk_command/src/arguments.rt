@@ -9,6 +9,15 @@ use qk_core::{Core, Expr};
 use qk_eval::{Ending, Shared, eval_shared};
 use std::alloc::Global;
 
+/// One argument, shared.
+pub(crate) fn one(alloc: Global, a: &Shared) -> Result<Vec<Shared>, Memory>
+    ensures { IfOk result (λ all. all.items ≡ a.now ∷ []) }
+{
+    let mut all = Vec::with_capacity(alloc, 1)?;
+    all.push(a.share()?)?;
+    Ok(all)
+}
+
 /// Two arguments, shared.
 pub(crate) fn two(alloc: Global, a: &Shared, b: &Shared) -> Result<Vec<Shared>, Memory>
     ensures { IfOk result (λ all. all.items ≡ a.now ∷ b.now ∷ []) }

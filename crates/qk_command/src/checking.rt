@@ -18,8 +18,8 @@ use qk_core::{Binder, Check, Core, Draw, Expr, ModelDef};
 use qk_eval::{Ending, Shared, eval_shared};
 use std::alloc::Global;
 
-// The model of that number.
-fn model_at(core: &Core, number: u32) -> Option<&ModelDef>
+/// The model of that number.
+pub(crate) fn model_at(core: &Core, number: u32) -> Option<&ModelDef>
     ensures { option_copied result ≡ slice_get core.now.models number }
 {
     if number < core.models() {

@@ -109,7 +109,7 @@ fn passing(
     }
 }
 
-fn without_marks(alloc: Global, verdict: Verdict) -> Outcome
+pub(crate) fn without_marks(alloc: Global, verdict: Verdict) -> Outcome
     ensures { result ≡ record { verdict = verdict; marks = no_marks } }
 {
     Outcome {

@@ -2,16 +2,22 @@
 #![tactic(auto)]
 
 mod arguments;
+mod attempting;
 mod checking;
 mod command_lists;
+mod commands;
+mod drawing;
 mod judging;
 mod keeping;
 mod marking;
 mod noting;
 mod running;
 mod step;
+mod turning;
 
+pub use attempting::attempt;
 pub use command_lists::{Kept, Ran};
+pub use drawing::{Drawn, draw_all_shared};
 pub use judging::{judge, judge_shared};
 pub use keeping::keeps;
 pub use running::runs;

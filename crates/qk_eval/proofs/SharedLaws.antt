@@ -5,11 +5,11 @@ use Rattle.qk_value.specs.Data.{Data, int, bool, list, pair, made, datas_of, lis
 use Rattle.qk_value.specs.Measures.{weights, weight, depths, depth}
 use Rattle.qk_eval.specs.Parts.{items_of, is_list}
 
-weight_push : (xs : List Data) (x : Data) → weights (datas_of (xs ++ x ∷ [])) ≡ weights (datas_of xs) + weight x
+pub weight_push : (xs : List Data) (x : Data) → weights (datas_of (xs ++ x ∷ [])) ≡ weights (datas_of xs) + weight x
 weight_push [] x = omega arith
 weight_push (y ∷ ys) x = omega (arith, weight_push ys x)
 
-depth_push : (xs : List Data) (x : Data) → depths (datas_of (xs ++ x ∷ [])) ≡ max (depth x) (depths (datas_of xs))
+pub depth_push : (xs : List Data) (x : Data) → depths (datas_of (xs ++ x ∷ [])) ≡ max (depth x) (depths (datas_of xs))
 depth_push [] x = omega arith
 depth_push (y ∷ ys) x = omega (arith, depth_push ys x)
 

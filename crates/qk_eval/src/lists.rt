@@ -1,10 +1,10 @@
 //! Walks along shared lists.
 ghost use Rattle.std.specs.Prelude.{◌≡◌, ◌≤◌, ◌<◌, IfOk, pos, IsTrue};
 ghost use Rattle.qk_value.specs.Data.{Data, list, datas_of};
-ghost use Rattle.qk_value.specs.Measures.{depths, IsSmall};
+ghost use Rattle.qk_value.specs.Measures.{weight, depth, depths, IsSmall};
 ghost use Rattle.qk_eval.specs.Parts.{items_of, count, joined, is_list, small};
 
-use crate::shared::{Node, Shared};
+use crate::shared::{Node, Shared, depth_all, weight_all};
 use qk_base::{Cause, Memory};
 use std::alloc::Global;
 
@@ -14,6 +14,20 @@ impl Shared {
         ensures { IsSmall self.now }
     {
         let _ = &self.weight;
+    }
+
+    /// The weight, which was kept with the value.
+    pub fn weight(&self) -> u64
+        ensures { result ≡ weight self.now }
+    {
+        self.weight
+    }
+
+    /// The depth, which was kept with the value.
+    pub fn depth(&self) -> u64
+        ensures { result ≡ depth self.now }
+    {
+        self.depth
     }
 
     /// The number of items, 0 for what is no list. It costs a step for each.
@@ -39,6 +53,21 @@ impl Shared {
         ensures { IfOk result (λ all. datas_of all.items ≡ items_of self.now) }
     {
         items_of(alloc, self)
+    }
+
+    /// The list of these items, unless it is too heavy or else too deep. It costs a step for each item.
+    #[tactic(auto, using(crate::proofs::ListLaws::joined_end))]
+    pub fn list(alloc: Global, items: Vec<Shared>) -> Result<Result<Shared, Cause>, Memory>
+        ensures { IfOk result (λ r. r ≡ small (list (datas_of items.items))) }
+    {
+        if weight_all(&items) > 65_536 {
+            return Ok(Err(Cause::Weight));
+        }
+        if depth_all(&items) > 200 {
+            return Ok(Err(Cause::Depth));
+        }
+        let list = prepend(alloc, items, Shared::nil())?;
+        Ok(list)
     }
 
     /// The value, or the empty list in place of what is no list.

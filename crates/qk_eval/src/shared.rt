@@ -297,7 +297,7 @@ fn bind_all(parts: &[Shared], env: &mut Vec<Shared>) -> Result<usize, Memory>
 }
 
 // The weight of a value with these parts, or 65,537 where it is greater.
-fn weight_all(parts: &[Shared]) -> u64
+pub(crate) fn weight_all(parts: &[Shared]) -> u64
     ensures { result ≡ min (weights_of (datas_of parts.now) + 1) 65537 }
 {
     let mut weight = 1;
@@ -307,7 +307,7 @@ fn weight_all(parts: &[Shared]) -> u64
     weight
 }
 
-fn depth_all(parts: &[Shared]) -> u64
+pub(crate) fn depth_all(parts: &[Shared]) -> u64
     ensures { result ≡ depths_of (datas_of parts.now) + 1 }
 {
     let mut depth = 1;
