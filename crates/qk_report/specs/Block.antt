@@ -1,0 +1,40 @@
+-- The block of a property.
+use Rattle.std.specs.Prelude.{ℕ, ◌+◌, Bool, List, ◌++◌, length, codes, Option}
+use Rattle.qk_base.specs.declared.outcome.Cause.{Cause}
+use Rattle.qk_core.specs.Properties.{PropertyData}
+use Rattle.qk_value.specs.Data.{Data}
+use Rattle.qk_value.specs.Kinds.{KindData}
+use Rattle.qk_report.specs.Lines.{first_line, cause_line, attempt_line, shrinks_line, value_lines, path_line, replay_line}
+use Rattle.qk_report.specs.Token.{TokenData}
+
+-- what is told of a failure: the attempt, the last values with their cause, and how they were found
+pub record FailureData : Type 0 where
+  pub attempt : ℕ
+  pub size : ℕ
+  pub cause : Cause
+  pub drawing : Bool
+  pub values : List Data
+  pub path : List ℕ
+  pub tried : Option ℕ
+  pub limit_met : Bool
+  pub seed : ℕ
+  pub fuel : ℕ
+
+abbrev pub token_of : ℕ → FailureData → TokenData
+token_of number f = record { property = number; seed = f.seed; attempt = f.attempt; size = f.size; fuel = f.fuel; path = f.path }
+
+-- the lines of a failure after the first
+abbrev pub failure_lines : List KindData → ℕ → PropertyData → FailureData → List ℕ
+failure_lines kinds number p f =
+    cause_line f.cause f.drawing ++ attempt_line f.attempt f.size ++ shrinks_line (length f.path) f.tried f.limit_met ++ value_lines kinds p.binders f.values ++ path_line f.path
+    ++ replay_line (token_of number f)
+
+abbrev pub passed_block : PropertyData → ℕ → ℕ → List ℕ
+passed_block p n discards = first_line p.name (codes "passed ") n discards
+
+abbrev pub gave_up_block : PropertyData → ℕ → ℕ → List ℕ
+gave_up_block p n discards = first_line p.name (codes "gave up after ") n discards
+
+-- the failing attempt counts as a test
+abbrev pub failed_block : List KindData → ℕ → PropertyData → ℕ → ℕ → FailureData → List ℕ
+failed_block kinds number p n discards f = first_line p.name (codes "failed after ") (n + 1) discards ++ failure_lines kinds number p f

@@ -1,0 +1,19 @@
+-- The data that a failure stands for.
+use Rattle.std.specs.Prelude.{map}
+use Rattle.qk_value.specs.View.{view_value}
+use Rattle.qk_report.specs.Block.{FailureData}
+use Rattle.qk_report.specs.declared.failure.Failure.{Failure}
+
+abbrev pub failure_in : Failure → FailureData
+failure_in f = record {
+  attempt = f.attempt;
+  size = f.size;
+  cause = f.cause;
+  drawing = f.drawing;
+  values = map view_value f.values.items;
+  path = f.path.items;
+  tried = f.tried;
+  limit_met = f.limit_met;
+  seed = f.seed;
+  fuel = f.fuel;
+}

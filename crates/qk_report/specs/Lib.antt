@@ -1,0 +1,4 @@
+pub mod Block
+pub mod FailureView
+pub mod Lines
+pub mod Token

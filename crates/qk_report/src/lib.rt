@@ -1,0 +1,14 @@
+//! The text of a report, apart from what it tells of: lines and blocks, at the end of what is there.
+#![tactic(auto)]
+
+mod block;
+mod failure;
+mod lines;
+mod texts;
+mod token;
+mod value_lines;
+
+pub use block::{put_failed_block, put_gave_up_block, put_passed_block};
+pub use failure::Failure;
+pub use lines::put_last_line;
+pub use texts::{put, put_named};
