@@ -20,7 +20,6 @@ impl Model for Commands {
     ghost use Rattle.std.specs.Prelude.{◌≡◌, ◌+◌, ◌≤◌, List};
     ghost use Rattle.qk_value.specs.Data.{Data, datas_of};
     ghost use Rattle.qk_value.specs.Measures.{weights, depths};
-
     ghost use base.Stored.{coded_list};
     ghost use Rattle.qk_value.specs.Code.{data_code};
 

@@ -74,9 +74,7 @@ fn draw_binder(
 {
     match draw {
         Draw::Plain(gen_expr) => draw_shared(alloc, core, gen_expr, env, g, size, fuel),
-        Draw::Commands(model) => {
-            draw_model(alloc, core, model_at(core, *model), g, size, fuel)
-        }
+        Draw::Commands(model) => { draw_model(alloc, core, model_at(core, *model), g, size, fuel) }
     }
 }
 

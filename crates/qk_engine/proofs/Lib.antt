@@ -1,4 +1,4 @@
-pub mod Attempts
-pub mod Counting
+pub mod Covers
+pub mod ProgramLaws
 pub mod Replies
-pub mod Texts
+pub mod SequentialSteps

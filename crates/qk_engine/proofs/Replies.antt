@@ -1,23 +1,19 @@
 -- What the front of a file says of the whole, and what a reply tells.
-use Rattle.std.proofs.Common.{◌≡◌, ◌⊎◌, ℕ, ◌<◌, List, [], ◌∷◌, ◌++◌, Option, Some, None, take, length, arith, refl, sym, ap, ◌∙◌, subst, inl, inr}
+use Rattle.std.proofs.Common.{◌≡◌, ◌⊎◌, ℕ, ◌+◌, Bool, true, false, nat_eq, if◌then◌else◌, Ok, ◌<◌, List, [], ◌∷◌, ◌++◌, Option, Some, None, take, length, arith, refl, sym, ap, ◌∙◌, subst, inl, inr}
 use Rattle.std.proofs.lemmas.Bool.{cases_lt, lt-ltb}
 use Rattle.std.proofs.lemmas.List.{take_all, length-take-le}
+use Rattle.std.specs.Result.{result_err}
 use Rattle.qk_base.specs.declared.status.Status.{Status}
-use Rattle.qk_schedule.specs.Counts.{Counts}
-use Rattle.qk_schedule.specs.declared.finish.Finish.{Finish}
-use Rattle.qk_schedule.specs.declared.finish.Finish.TheVariants as finish
+use Rattle.qk_base.specs.declared.status.Status.TheVariants as status
+use Rattle.qk_core.specs.Program.{ProgramData}
 use Rattle.qk_syntax.specs.Places.{start}
 use Rattle.qk_syntax.specs.PlainTrees.{PlainTrees}
 use Rattle.qk_syntax.specs.Spelling.{Spells}
 use Rattle.qk_syntax.specs.TextFault.{text_fault, fault}
 use Rattle.qk_syntax.proofs.TextRead.{spelled_has_no_fault, one_spelling}
-use Rattle.qk_types.specs.Elaboration.{type_fault}
-use Rattle.qk_engine.specs.Attempt.{drawn}
-use Rattle.qk_engine.specs.Form.{IsForm}
-use Rattle.qk_engine.specs.Reply.{FileReplies, TreesReply, ProgramReply, replies_to, tells, IsReply, IsRun, run_of, report, seed}
-use Rattle.qk_engine.specs.Report.{status_of, block, last_line, totals}
-use Rattle.qk_engine.specs.declared.form.Form.{Form}
-use Rattle.qk_engine.proofs.Texts.{join}
+use Rattle.qk_types.specs.Elaboration.{elaborated}
+use Rattle.qk_engine.specs.Program.{is_built, how_many, is_failed, is_gave_up}
+use Rattle.qk_engine.specs.Reply.{FileReplies, TreesReply, ProgramReply, replies_to, tells, IsReply, IsRun}
 
 -- a file that is too long has that fault, whatever its bytes are
 long_is_refused : (bytes : List ℕ) → 1048576 < length bytes → text_fault bytes ≡ Some (fault 1 start)
@@ -42,47 +38,47 @@ run_is_of_trees bytes s text run said = elim said as (λ _. length bytes < 10485
   | inr read ↦ let short = read.1.short in omega (arith, short)
 ]
 
-pub finish_is_run : (f : Finish) → IsRun (status_of f)
-finish_is_run finish.Passed = inl refl
-finish_is_run finish.GaveUp = inr refl
-finish_is_run (finish.Failed k size cause) = inr refl
+run_or_not : (b : Bool) → IsRun (if b then status.AllPassed else status.SomeFailed)
+run_or_not true = inl refl
+run_or_not false = inr refl
 
--- a program of the form is run
-program_is_run : (trees : PlainTrees) (form : Form) (s : Status) (text : List ℕ) → IsForm trees form → ProgramReply trees s text → IsRun s
-program_is_run trees form s text is said = elim said as (λ _. IsRun s) [
-  | inl run ↦ subst IsRun (sym run.2) (finish_is_run (run_of run.0).finish)
-  | inr refused ↦ absurd (refused.0 form is)
+-- a program whose report can be made is run
+program_is_run : (c : ProgramData) (s : Status) (text : List ℕ) → is_built c ≡ true → ProgramReply c s text → IsRun s
+program_is_run c s text built said = elim said as (λ _. IsRun s) [
+  | inl run ↦ subst IsRun (sym run.1) (run_or_not (nat_eq (how_many is_failed c + how_many is_gave_up c) 0))
+  | inr refused ↦ absurd (let both = sym built ∙ refused.0 in cc)
 ]
 
--- trees without fault that are of the form are run
-trees_are_run : (trees : PlainTrees) (form : Form) (s : Status) (text : List ℕ) → type_fault trees ≡ None → IsForm trees form → TreesReply trees s text → IsRun s
-trees_are_run trees form s text good is said = elim said as (λ _. IsRun s) [
-  | inl refused ↦ absurd (let both = sym good ∙ refused.1 in cc)
-  | inr program ↦ program_is_run trees form s text is program.1
+-- trees of such a program are run
+trees_are_run : (trees : PlainTrees) (c : ProgramData) (s : Status) (text : List ℕ) → elaborated trees ≡ Ok c → is_built c ≡ true → TreesReply trees s text → IsRun s
+trees_are_run trees c s text good built said = elim said as (λ _. IsRun s) [
+  | inl refused ↦ absurd (let both = sym (ap result_err good) ∙ refused.1 in cc)
+  | inr program ↦
+      let same : program.0 ≡ c = let both = sym program.1 ∙ good in cc in
+      program_is_run c s text built (subst (λ (d : ProgramData). ProgramReply d s text) same program.2)
 ]
 
--- a file that spells trees of the form is run
-pub form_is_run : (bytes : List ℕ) (trees : PlainTrees) (form : Form) (s : Status) (text : List ℕ) → Spells bytes trees → type_fault trees ≡ None → IsForm trees form → FileReplies bytes s text → IsRun s
-form_is_run bytes trees form s text spells good is said = elim said as (λ _. IsRun s) [
+-- a file that spells trees of such a program is run
+pub built_is_run : (bytes : List ℕ) (trees : PlainTrees) (c : ProgramData) (s : Status) (text : List ℕ) → Spells bytes trees → elaborated trees ≡ Ok c → is_built c ≡ true → FileReplies bytes s text → IsRun s
+built_is_run bytes trees c s text spells good built said = elim said as (λ _. IsRun s) [
   | inl refused ↦ absurd (let both = sym (spelled_has_no_fault bytes trees spells) ∙ refused.1 in cc)
-  | inr read ↦ trees_are_run trees form s text good is (subst (λ (us : PlainTrees). TreesReply us s text) (one_spelling bytes read.0 trees read.1 spells) read.2)
+  | inr read ↦ trees_are_run trees c s text good built (subst (λ (us : PlainTrees). TreesReply us s text) (one_spelling bytes read.0 trees read.1 spells) read.2)
 ]
 
-program_is_replied : (trees : PlainTrees) (s : Status) (text : List ℕ) → ProgramReply trees s text → IsReply s
-program_is_replied trees s text said = elim said as (λ _. IsReply s) [
-  | inl run ↦ subst IsReply (sym run.2) (run_is_reply (run_of run.0).finish)
+program_is_replied : (c : ProgramData) (s : Status) (text : List ℕ) → ProgramReply c s text → IsReply s
+program_is_replied c s text said = elim said as (λ _. IsReply s) [
+  | inl run ↦ subst IsReply (sym run.1) (replied_or_not (nat_eq (how_many is_failed c + how_many is_gave_up c) 0))
   | inr refused ↦ subst IsReply (sym refused.1.0) tt
 ]
   where
-    run_is_reply : (f : Finish) → IsReply (status_of f)
-    run_is_reply finish.Passed = tt
-    run_is_reply finish.GaveUp = tt
-    run_is_reply (finish.Failed k size cause) = tt
+    replied_or_not : (b : Bool) → IsReply (if b then status.AllPassed else status.SomeFailed)
+    replied_or_not true = tt
+    replied_or_not false = tt
 
 trees_are_replied : (trees : PlainTrees) (s : Status) (text : List ℕ) → TreesReply trees s text → IsReply s
 trees_are_replied trees s text said = elim said as (λ _. IsReply s) [
   | inl refused ↦ subst IsReply (sym refused.2.0) tt
-  | inr program ↦ program_is_replied trees s text program.1
+  | inr program ↦ program_is_replied program.0 s text program.2
 ]
 
 pub file_is_reply : (bytes : List ℕ) (s : Status) (text : List ℕ) → FileReplies bytes s text → IsReply s
@@ -99,21 +95,10 @@ loaded_says holds name (Some n) bytes loaded s text e told front said =
     let same : name ≡ n = cc in
     front_says bytes s text (subst (λ (b : List ℕ). FileReplies b s text) (front (ap holds same ∙ told)) said)
 
--- the text is the report of the form
-pub report_is : (form : Form) (f : Finish) (c : Counts) (ended : ℕ × ℕ × ℕ) (t0 t1 t2 : List ℕ)
-    → f ≡ (run_of form).finish → c ≡ (run_of form).state → ended ≡ totals f
-    → t0 ≡ [] → t1 ≡ t0 ++ block (form.name ∷ []) (drawn form seed) f c → t2 ≡ t1 ++ last_line 1 ended → t2 ≡ report form
-report_is form f c ended t0 t1 t2 is_finish is_state is_ended begins mid last =
-    join t0 t1 t2 _ _ mid last
-    ∙ ap (λ (t : List ℕ). t ++ (block (form.name ∷ []) (drawn form seed) f c ++ last_line 1 ended)) begins
-    ∙ ap (λ (e : ℕ × ℕ × ℕ). block (form.name ∷ []) (drawn form seed) f c ++ last_line 1 e) is_ended
-    ∙ ap (λ (g : Finish). block (form.name ∷ []) (drawn form seed) g c ++ last_line 1 (totals g)) is_finish
-    ∙ ap (λ (d : Counts). block (form.name ∷ []) (drawn form seed) (run_of form).finish d ++ last_line 1 (totals (run_of form).finish)) is_state
-
--- the reply to words that name a file of the form tells of a run
-pub named_is_run : (holds : List ℕ → Option (List ℕ)) (named : Option (List ℕ)) (name bytes : List ℕ) (trees : PlainTrees) (form : Form) (s : Status) (text : List ℕ)
-    → named ≡ Some name → holds name ≡ Some bytes → Spells bytes trees → type_fault trees ≡ None → IsForm trees form → ((b : List ℕ) → tells holds named b → replies_to named b s text) → IsRun s
-named_is_run holds None name bytes trees form s text named held spells good is said = cc
-named_is_run holds (Some n) name bytes trees form s text named held spells good is said =
+-- the reply to words that name a file of such a program tells of a run
+pub named_is_run : (holds : List ℕ → Option (List ℕ)) (named : Option (List ℕ)) (name bytes : List ℕ) (trees : PlainTrees) (c : ProgramData) (s : Status) (text : List ℕ)
+    → named ≡ Some name → holds name ≡ Some bytes → Spells bytes trees → elaborated trees ≡ Ok c → is_built c ≡ true → ((b : List ℕ) → tells holds named b → replies_to named b s text) → IsRun s
+named_is_run holds None name bytes trees c s text named held spells good built said = cc
+named_is_run holds (Some n) name bytes trees c s text named held spells good built said =
     let same : n ≡ name = cc in
-    form_is_run bytes trees form s text spells good is (said bytes (ap holds same ∙ held))
+    built_is_run bytes trees c s text spells good built (said bytes (ap holds same ∙ held))

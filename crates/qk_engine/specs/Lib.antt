@@ -1,7 +1,5 @@
-pub mod Attempt
-pub mod Bares
-pub mod Ended
-pub mod Form
+pub mod FinishView
+pub mod Program
 pub mod Reply
-pub mod Report
+pub mod Running
 pub mod Words

@@ -1,37 +1,16 @@
 -- What a run answers: a status and a text for the words and the bytes of their file.
-use Rattle.std.specs.Prelude.{◌≡◌, ◌⊎◌, ℕ, List, [], ◌∷◌, ◌++◌, Option, Some, None, codes, ⊤}
+use Rattle.std.specs.Prelude.{◌≡◌, ◌⊎◌, ℕ, true, false, List, [], ◌∷◌, ◌++◌, Option, Some, None, Ok, codes, ⊤}
+use Rattle.qk_base.specs.declared.place.Refusal.{Refusal}
 use Rattle.qk_base.specs.declared.status.Status.{Status}
 use Rattle.qk_base.specs.declared.status.Status.TheVariants as status
-use Rattle.qk_schedule.specs.declared.limits.Limits.{Limits}
-use Rattle.qk_schedule.specs.Counts.{Counts}
-use Rattle.qk_schedule.specs.Quick.{rules_of}
-use Rattle.qk_schedule.specs.Sequential.{Run, sequential}
-use Rattle.qk_base.specs.declared.place.Refusal.{Refusal}
+use Rattle.qk_core.specs.Program.{ProgramData}
+use Rattle.qk_report.specs.Lines.{line, named}
 use Rattle.qk_syntax.specs.PlainTrees.{PlainTrees}
 use Rattle.qk_syntax.specs.Spelling.{Spells}
 use Rattle.qk_syntax.specs.TextFault.{text_fault}
-use Rattle.qk_types.specs.Elaboration.{type_fault}
-use Rattle.qk_engine.specs.declared.form.Form.{Form}
-use Rattle.qk_engine.specs.Attempt.{drawn, outcome}
-use Rattle.qk_engine.specs.Form.{IsForm}
-use Rattle.qk_engine.specs.Report.{line, named, block, last_line, totals, status_of}
+use Rattle.qk_types.specs.Elaboration.{elaborated, type_fault}
+use Rattle.qk_engine.specs.Program.{is_built, report, status_of}
 use Rattle.qk_engine.specs.Words.{file_named}
-
--- the limits of every run: 100 successes, 10 discards for each, sizes up to 100
-abbrev pub limits : Limits
-limits = record { success = 100; ratio = 10; max_size = 100; covers = 0 }
-
--- the seed of every run
-abbrev pub seed : ℕ
-seed = 0
-
--- the sequential run of a form
-abbrev pub run_of : Form → Run Counts
-run_of form = sequential (rules_of limits) (outcome form seed)
-
--- the report of a form
-abbrev pub report : Form → List ℕ
-report form = block (form.name ∷ []) (drawn form seed) (run_of form).finish (run_of form).state ++ last_line 1 (totals (run_of form).finish)
 
 -- words that are not accepted give the usage line
 abbrev pub usage : List ℕ
@@ -41,24 +20,24 @@ usage = line (codes "usage: quicker [options] FILE")
 abbrev pub refusal : Refusal → List ℕ
 refusal r = line (named (codes "refused ") r.code ++ named (codes " at ") r.place.line ++ named (codes ":") r.place.column)
 
--- a program that is not of the form that is built
+-- a program whose report can't be made today
 abbrev pub not_built : Refusal
 not_built = record { code = 19; place = record { line = 1; column = 1 } }
 
 abbrev pub Refuses : Refusal → Status → List ℕ → Type 0
 Refuses r s text = (s ≡ status.Refused) × (text ≡ refusal r)
 
--- the answers to a program's trees: the report of the form that they are of, or a refusal where they are of none
-abbrev pub ProgramReply : PlainTrees → Status → List ℕ → Type 0
-ProgramReply trees s text =
-    ((form : Form) × IsForm trees form × (s ≡ status_of (run_of form).finish) × (text ≡ report form))
-    ⊎ (((form : Form) → IsForm trees form → ⊥) × Refuses not_built s text)
+-- the answers to a program: its report, or a refusal where that can't be made today
+abbrev pub ProgramReply : ProgramData → Status → List ℕ → Type 0
+ProgramReply c s text =
+    ((is_built c ≡ true) × (s ≡ status_of c) × (text ≡ report c))
+    ⊎ ((is_built c ≡ false) × Refuses not_built s text)
 
 -- the answers to the trees of a file: the refusal of the first check that does not hold of them, or those to a program
 abbrev pub TreesReply : PlainTrees → Status → List ℕ → Type 0
 TreesReply trees s text =
     ((r : Refusal) × (type_fault trees ≡ Some r) × Refuses r s text)
-    ⊎ ((type_fault trees ≡ None) × ProgramReply trees s text)
+    ⊎ ((c : ProgramData) × (elaborated trees ≡ Ok c) × ProgramReply c s text)
 
 -- the answers to a file: the refusal of its fault, or those to the trees that it spells
 abbrev pub FileReplies : List ℕ → Status → List ℕ → Type 0

@@ -1,19 +1,20 @@
 //! The top call: from the words and a library to a report in a sink.
 #![tactic(auto)]
 
-mod attempting;
-mod form;
+mod attempts;
+mod blocks;
+mod built;
+mod failing;
 mod made;
-mod parts;
 #[cfg(test)]
 mod program_tests;
+mod refusing;
 mod replying;
-mod report;
 mod sequential;
 #[cfg(test)]
 mod tests;
-mod text;
 mod top;
+mod totals;
 mod words;
 
 pub use made::Made;

@@ -178,7 +178,8 @@ const BEFORE: &str = "23 at 1:1 | (fun f)
 const GOOD: &str = "\n(prop p (forall ((x int)) (check (= x x))))";
 
 // Rows of models before the declarations that they name, and a property of their commands.
-const MODELS: &str = "19 at 1:1 | (model m (command Cmd g) (abstract Int 0 pre next) (system Int 0 step post))
+const MODELS: &str =
+    "19 at 1:1 | (model m (command Cmd g) (abstract Int 0 pre next) (system Int 0 step post))
 22 at 1:23 | (model m (command Cmd foo) (abstract Int 0 pre next) (system Int 0 step post))
 22 at 1:23 | (model m (command Cmd bool) (abstract Int 0 pre next) (system Int 0 step post))
 20 at 1:23 | (model m (command Cmd pre) (abstract Int 0 pre next) (system Int 0 step post))

@@ -1,38 +1,28 @@
 //! The reply to a file.
-ghost use Rattle.std.specs.Prelude.{◌≡◌, ◌≤◌, IfOk, length};
-ghost use Rattle.qk_engine.specs.Reply.{FileReplies, TreesReply, ProgramReply, Refuses, usage, report, run_of};
-ghost use Rattle.qk_engine.specs.Report.{status_of as status_after};
-ghost use Rattle.qk_syntax.specs.View.{views};
-ghost use Rattle.qk_types.specs.Elaboration.{type_fault};
+ghost use Rattle.std.specs.Prelude.{◌≡◌, ◌≤◌, ◌+◌, IfOk, length, nat_eq, if◌then◌else◌};
 ghost use Rattle.qk_base.specs.declared.status.Status.TheVariants as status;
+ghost use Rattle.qk_engine.specs.Program.{report, status_of as status_of_program};
+ghost use Rattle.qk_engine.specs.Reply.{FileReplies, TreesReply, ProgramReply, Refuses, usage};
+ghost use Rattle.qk_syntax.specs.View.{views};
+ghost use Rattle.qk_types.specs.Elaboration.{elaborated};
 
-use crate::form::{Form, form_of};
+use crate::blocks::put_blocks;
+use crate::built::is_built;
 use crate::made::Made;
-use crate::report::{put_block, status_of, totals};
-use crate::sequential::run_attempts;
-use crate::text::{put, put_last_line, put_refusal};
+use crate::refusing::put_refusal;
+use crate::totals::Totals;
 use qk_base::{Bytes, Fault, Memory, Place, Refusal, Seq, Status};
-use qk_schedule::Limits;
+use qk_core::Core;
+use qk_report::{put, put_last_line};
 use qk_syntax::{Tree, read};
 use qk_types::elaborate;
 use std::alloc::Global;
 
-/// The limits of every run.
-const LIMITS: Limits = Limits {
-    success: 100,
-    ratio: 10,
-    max_size: 100,
-    covers: 0,
-};
-
-/// The refusal of a program that is not of the form that is built.
+/// The refusal of a program whose report can't be made today.
 const NOT_BUILT: Refusal = Refusal {
     code: 19,
     place: Place { line: 1, column: 1 },
 };
-
-/// The seed of every run.
-const SEED: u64 = 0;
 
 /// The reply to words that are not accepted.
 pub fn usage_reply(alloc: Global) -> Result<Made, Memory>
@@ -62,31 +52,32 @@ fn trees_reply(alloc: Global, trees: &Seq<Tree>) -> Result<Made, Memory>
     requires { length trees.now.items ≤ 1000 }
     ensures { IfOk result (λ made. TreesReply (views trees.now.items) made.status made.text.items) }
 {
-    match refusal_of(alloc, trees)? {
-        Some(refusal) => refusal_reply(alloc, refusal),
-        None => program_reply(alloc, trees.as_slice()),
+    match checked(alloc, trees)? {
+        Err(refusal) => refusal_reply(alloc, refusal),
+        Ok(core) => program_reply(alloc, &core),
     }
 }
 
-// The first check that does not hold of the trees, if there is one.
-fn refusal_of(alloc: Global, trees: &Seq<Tree>) -> Result<Option<Refusal>, Memory>
+// The program that the trees stand for, or the first check that does not hold of them.
+fn checked(alloc: Global, trees: &Seq<Tree>) -> Result<Result<Core, Refusal>, Memory>
     requires { length trees.now.items ≤ 1000 }
-    ensures { IfOk result (λ refusal. type_fault (views trees.now.items) ≡ refusal) }
+    ensures { IfOk result (λ checked. elaborated (views trees.now.items) ≡ checked) }
 {
     match elaborate(alloc, trees) {
-        Ok(_) => Ok(None),
+        Ok(core) => Ok(Ok(core)),
         Err(Fault::Memory) => Err(Memory),
-        Err(Fault::Refused(refusal)) => Ok(Some(refusal)),
+        Err(Fault::Refused(refusal)) => Ok(Err(refusal)),
     }
 }
 
 // The reply to a program.
-fn program_reply(alloc: Global, trees: &[Tree]) -> Result<Made, Memory>
-    ensures { IfOk result (λ made. ProgramReply (views trees.now) made.status made.text.items) }
+fn program_reply(alloc: Global, core: &Core) -> Result<Made, Memory>
+    ensures { IfOk result (λ made. ProgramReply core.now made.status made.text.items) }
 {
-    match form_of(trees) {
-        None => refusal_reply(alloc, NOT_BUILT),
-        Some(form) => run_reply(alloc, &form),
+    if is_built(core) {
+        run_reply(alloc, core)
+    } else {
+        refusal_reply(alloc, NOT_BUILT)
     }
 }
 
@@ -102,16 +93,32 @@ fn refusal_reply(alloc: Global, refusal: Refusal) -> Result<Made, Memory>
     })
 }
 
-// The reply to a form.
-fn run_reply(alloc: Global, form: &Form) -> Result<Made, Memory>
-    ensures { IfOk result (λ made. (made.status ≡ status_after (run_of form.now).finish) × (made.text.items ≡ report form.now)) }
+// The report of a program.
+fn run_reply(alloc: Global, core: &Core) -> Result<Made, Memory>
+    ensures { IfOk result (λ made. (made.status ≡ status_of_program core.now) × (made.text.items ≡ report core.now)) }
 {
-    let ended = run_attempts(alloc, form, LIMITS, SEED)?;
     let mut text = Bytes::make(alloc);
-    put_block(alloc, &mut text, form, SEED, &ended)?;
-    put_last_line(alloc, &mut text, 1, totals(ended.finish))?;
+    let totals = put_blocks(alloc, &mut text, core)?;
+    put_last_line(
+        alloc,
+        &mut text,
+        core.properties() as u64,
+        totals.passed,
+        totals.failed,
+        totals.gave_up,
+    )?;
     Ok(Made {
-        status: status_of(ended.finish),
+        status: status_of(totals),
         text,
     })
+}
+
+fn status_of(totals: Totals) -> Status
+    ensures { result ≡ (if nat_eq (totals.failed + totals.gave_up) 0 then status.AllPassed else status.SomeFailed) }
+{
+    if totals.failed == 0 && totals.gave_up == 0 {
+        Status::AllPassed
+    } else {
+        Status::SomeFailed
+    }
 }

@@ -1,15 +1,15 @@
 //! The top call.
-ghost use Rattle.std.specs.Prelude.{◌≡◌, ◌⊎◌, ℕ, List, [], Some, None, take, map, string_bytes, IfOk, IfErr, IsErrOf};
+ghost use Rattle.std.specs.Prelude.{◌≡◌, ◌⊎◌, ℕ, true, List, [], Some, None, Ok, take, map, string_bytes, IfOk, IfErr, IsErrOf};
 ghost use Rattle.qk_base.specs.Faults.{HasRisen};
 ghost use Rattle.qk_base.specs.Gains.{Gains};
 ghost use Rattle.qk_base.specs.declared.status.Status.{Status as Answer};
-ghost use Rattle.qk_engine.specs.Form.{IsForm};
+ghost use Rattle.qk_core.specs.Program.{ProgramData};
+ghost use Rattle.qk_engine.specs.Program.{is_built};
 ghost use Rattle.qk_engine.specs.Reply.{Replies, Tells, IsReply, IsRun};
 ghost use Rattle.qk_engine.specs.Words.{file_named};
-ghost use Rattle.qk_engine.specs.declared.form.Form.{Form as Plain};
 ghost use Rattle.qk_syntax.specs.PlainTrees.{PlainTrees};
 ghost use Rattle.qk_syntax.specs.Spelling.{Spells};
-ghost use Rattle.qk_types.specs.Elaboration.{type_fault};
+ghost use Rattle.qk_types.specs.Elaboration.{elaborated};
 
 use crate::made::Made;
 use crate::replying::{file_reply, usage_reply};
@@ -21,7 +21,7 @@ use std::thread::Threads;
 /// The longest file, and one byte more.
 const MOST: usize = 1_048_577;
 
-/// The whole run: reads the words, loads the file, runs its property and writes the report. The words are those after the
+/// The whole run: reads the words, loads the file, runs its properties and writes the report. The words are those after the
 /// program's name.
 pub fn run<R: Threads + Sync, L: Library, K: Sink, G: Gate>(
     rt: &R,
@@ -52,7 +52,7 @@ pub fn run<R: Threads + Sync, L: Library, K: Sink, G: Gate>(
     // Where nothing fails, there is a reply, or memory is wanted.
     ensures answers { ((name : List ℕ) → file_named (map string_bytes words.now) ≡ Some name → HasRisen (L.faults library.old name) (L.faults library.new name) → ⊥)
         → (HasRisen (K.faults sink.old) (K.faults sink.new) → ⊥) → IsReply result ⊎ (result ≡ Status.Memory) }
-    ensures completes { (name bytes : List ℕ) (trees : PlainTrees) (form : Plain) → file_named (map string_bytes words.now) ≡ Some name → L.holds library.old name ≡ Some bytes → Spells bytes trees → type_fault trees ≡ None → IsForm trees form
+    ensures completes { (name bytes : List ℕ) (trees : PlainTrees) (program : ProgramData) → file_named (map string_bytes words.now) ≡ Some name → L.holds library.old name ≡ Some bytes → Spells bytes trees → elaborated trees ≡ Ok program → is_built program ≡ true
         → (HasRisen (L.faults library.old name) (L.faults library.new name) → ⊥) → (HasRisen (K.faults sink.old) (K.faults sink.new) → ⊥) → IsRun result ⊎ (result ≡ Status.Memory) }
 {
     match run_into(rt, alloc, words, library, gate) {

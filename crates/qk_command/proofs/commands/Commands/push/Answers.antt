@@ -15,7 +15,7 @@ pub returns-then-depth-gt200-clause-small : goal.returns-then-depth-gt200-clause
 returns-then-depth-gt200-clause-small c =
     subst (λ (xs : List Data). small (list (datas_of (xs ++ c.args.command.now ∷ []))) ≡ Err Depth) c.self.view_is
     (push_deep c.self.inside.items.items c.args.command.now c.self.inside.weight c.weight.result c.self.inside.depth c.depth.result c.self.invariant.0 c.weight.ensures c.if-weight-gt65536.false c.self.invariant.1
-      c.depth.ensures (subst (λ (n : ℕ). 200 < n) c.max-depth.ensures c.if-depth-gt200.true))
+    c.depth.ensures (subst (λ (n : ℕ). 200 < n) c.max-depth.ensures c.if-depth-gt200.true))
 
 pub invariant_of-self-2 : goal.invariant_of-self-2
 invariant_of-self-2 c =
@@ -26,4 +26,4 @@ pub returns-clause-small : goal.returns-clause-small
 returns-clause-small c =
     subst (λ (xs : List Data). small (list (datas_of (xs ++ c.args.command.now ∷ []))) ≡ Ok (list (datas_of (xs ++ c.args.command.now ∷ [])))) c.self.view_is
     (push_small c.self.inside.items.items c.args.command.now c.self.inside.weight c.weight.result c.self.inside.depth c.depth.result c.self.invariant.0 c.weight.ensures c.if-weight-gt65536.false c.self.invariant.1
-      c.depth.ensures (subst (λ (n : ℕ). n ≤ 200) c.max-depth.ensures c.if-depth-gt200.false))
+    c.depth.ensures (subst (λ (n : ℕ). n ≤ 200) c.max-depth.ensures c.if-depth-gt200.false))
