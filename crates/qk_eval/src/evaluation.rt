@@ -118,8 +118,8 @@ fn run<'e>(
     }
 }
 
-// An ending as an answer.
-fn answered(ending: &Ending, alloc: Global) -> Result<Answer, Memory>
+/// The answer that an ending is, of which the value is no longer shared.
+pub fn answered(ending: &Ending, alloc: Global) -> Result<Answer, Memory>
     ensures meaning { IfOk result (λ answer. said answer ≡ ended ending.now) }
     ensures small { IfOk result (λ answer. IsSmallAnswer answer) }
 {
@@ -144,8 +144,8 @@ fn copied(alloc: Global, env: &[Shared]) -> Result<Vec<Shared>, Memory>
     Ok(all)
 }
 
-// The shared values of small values, in order.
-fn shared_all(alloc: Global, values: &[Value]) -> Result<Vec<Shared>, Memory>
+/// The shared values of small values, in order.
+pub fn shared_all(alloc: Global, values: &[Value]) -> Result<Vec<Shared>, Memory>
     requires { AreSmall (map view_value values.now) }
     ensures { IfOk result (λ all. all.items ≡ map view_value values.now) }
 {

@@ -4,7 +4,7 @@ ghost use Rattle.qk_value.specs.Data.{Data, list, datas_of};
 ghost use Rattle.qk_value.specs.Measures.{depths, IsSmall};
 ghost use Rattle.qk_eval.specs.Parts.{items_of, count, joined, is_list, small};
 
-use crate::shared::{Node, Shared};
+use crate::shared::{Node, Shared, depth_all, weight_all};
 use qk_base::{Cause, Memory};
 use std::alloc::Global;
 
@@ -40,6 +40,21 @@ impl Shared {
         ensures list { IsTrue (is_list result) }
     {
         if self.is_list() { self } else { Shared::nil() }
+    }
+
+    /// The list of these items, unless it is too heavy or else too deep. It costs a step for each item.
+    #[tactic(auto, using(crate::proofs::ListLaws::joined_end))]
+    pub fn list(alloc: Global, items: Vec<Shared>) -> Result<Result<Shared, Cause>, Memory>
+        ensures { IfOk result (λ r. r ≡ small (list (datas_of items.items))) }
+    {
+        if weight_all(&items) > 65_536 {
+            return Ok(Err(Cause::Weight));
+        }
+        if depth_all(&items) > 200 {
+            return Ok(Err(Cause::Depth));
+        }
+        let all = prepend(alloc, items, Shared::nil())?;
+        Ok(all)
     }
 
     /// The items of one list and then of another, unless the list is too heavy or else too deep. It costs a step for each item of
