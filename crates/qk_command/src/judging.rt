@@ -12,7 +12,7 @@ use crate::marking::mark_all;
 use crate::step::Step;
 use qk_base::{Bytes, Marks, Memory, Outcome, Seq, Verdict};
 use qk_core::{Core, Property};
-use qk_eval::Shared;
+use qk_eval::{Shared, shared_all};
 use qk_value::Value;
 use std::alloc::Global;
 
@@ -121,16 +121,4 @@ pub(crate) fn without_marks(alloc: Global, verdict: Verdict) -> Outcome
             covers: Seq::make(alloc),
         },
     }
-}
-
-// The shared values of small values, in order.
-fn shared_all(alloc: Global, values: &[Value]) -> Result<Vec<Shared>, Memory>
-    requires { AreSmall (map view_value values.now) }
-    ensures { IfOk result (λ all. all.items ≡ map view_value values.now) }
-{
-    let mut all = Vec::with_capacity(alloc, values.len())?;
-    for value in values {
-        all.push(Shared::of_value(alloc, value)?)?;
-    }
-    Ok(all)
 }

@@ -14,10 +14,10 @@ Within (result x v) u = v ≤ u
 Within (crash c) u = Unit {0}
 
 -- both are the same, and take what they take from these units
-abbrev Alike : {R : Type 0} → Evaluated R → Evaluated R → ℕ → Type 0
+abbrev pub Alike : {R : Type 0} → Evaluated R → Evaluated R → ℕ → Type 0
 Alike r s u = (r ≡ s) × Within r u
 
-wider : {R : Type 0} (r : Evaluated R) (u v : ℕ) → u ≤ v → Within r u → Within r v
+pub wider : {R : Type 0} (r : Evaluated R) (u v : ℕ) → u ≤ v → Within r u → Within r v
 wider (result x w) u v le h = le_trans h le
 wider (crash c) u v le h = tt
 
@@ -25,16 +25,16 @@ then_alike : {R S : Type 0} (r : Evaluated R) (f g : R → ℕ → Evaluated S) 
 then_alike (result x v) f g u le go = ((go x v le).0, wider (f x v) v u le (go x v le).1)
 then_alike (crash c) f g u le go = (refl, tt)
 
-both_alike : {R S : Type 0} (r s : Evaluated R) (f g : R → ℕ → Evaluated S) (u : ℕ) → Alike r s u → ((x : R) (v : ℕ) → v ≤ u → Alike (f x v) (g x v) v) → Alike (and_then r f) (and_then s g) u
+pub both_alike : {R S : Type 0} (r s : Evaluated R) (f g : R → ℕ → Evaluated S) (u : ℕ) → Alike r s u → ((x : R) (v : ℕ) → v ≤ u → Alike (f x v) (g x v) v) → Alike (and_then r f) (and_then s g) u
 both_alike r s f g u (same, le) go =
     let after = then_alike r f g u le go in
     (after.0 ∙ ap (λ t. and_then t g) same, after.1)
 
-if_alike : {R : Type 0} (b : Bool) (r s r' s' : Evaluated R) (u : ℕ) → Alike r r' u → Alike s s' u → Alike (if b then r else s) (if b then r' else s') u
+pub if_alike : {R : Type 0} (b : Bool) (r s r' s' : Evaluated R) (u : ℕ) → Alike r r' u → Alike s s' u → Alike (if b then r else s) (if b then r' else s') u
 if_alike true r s r' s' u h k = h
 if_alike false r s r' s' u h k = k
 
-crash_alike : (r : Result Data Cause) (u : ℕ) → Alike (or_crash r u) (or_crash r u) u
+pub crash_alike : (r : Result Data Cause) (u : ℕ) → Alike (or_crash r u) (or_crash r u) u
 crash_alike (Err c) u = (refl, tt)
 crash_alike (Ok x) u = (refl, le_refl u)
 
@@ -57,7 +57,7 @@ module _ (c d : Calls) (most : ℕ) (same : (f : ℕ) (args : List Data) (u : �
     alike (making k m parts) env u h = both_alike _ _ _ _ u (alike_all parts env u h) (λ xs v l. crash_alike (small (made k m (datas_of xs))) v)
     alike (call f args) env u h = both_alike _ _ _ _ u (alike_all args env u h) (λ xs v l. same f xs v (le_trans l h))
 
-    alike_all : (es : ExprsData) (env : List Data) (u : ℕ) → u ≤ most → Alike (mean_all c es env u) (mean_all d es env u) u
+    pub alike_all : (es : ExprsData) (env : List Data) (u : ℕ) → u ≤ most → Alike (mean_all c es env u) (mean_all d es env u) u
     alike_all no_expr env u h = (refl, le_refl u)
     alike_all (more_exprs e es) env u h = both_alike _ _ _ _ u (alike e env u h) (λ x v l. both_alike _ _ _ _ v (alike_all es env v (le_trans l h)) (λ xs w m. (refl, le_refl w)))
 
@@ -101,3 +101,6 @@ called_within functions f args u = rw calling_called at (calling_within function
 
 pub meaning_within : (functions : List FunctionData) (e : ExprData) (env : List Data) (u : ℕ) → Within (meaning functions e env u) u
 meaning_within functions e env u = (alike (calling functions) (calling functions) u (λ f args v l. (refl, calling_within functions f args v)) e env u (le_refl u)).1
+
+pub all_within : (functions : List FunctionData) (es : ExprsData) (env : List Data) (u : ℕ) → Within (mean_all (calling functions) es env u) u
+all_within functions es env u = (alike_all (calling functions) (calling functions) u (λ f args v l. (refl, calling_within functions f args v)) es env u (le_refl u)).1

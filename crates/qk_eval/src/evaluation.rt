@@ -118,8 +118,8 @@ fn run<'e>(
     }
 }
 
-// An ending as an answer.
-fn answered(ending: &Ending, alloc: Global) -> Result<Answer, Memory>
+/// The answer that an ending is, of which the value is no longer shared.
+pub fn answered(ending: &Ending, alloc: Global) -> Result<Answer, Memory>
     ensures meaning { IfOk result (λ answer. said answer ≡ ended ending.now) }
     ensures small { IfOk result (λ answer. IsSmallAnswer answer) }
 {
@@ -133,8 +133,8 @@ fn answered(ending: &Ending, alloc: Global) -> Result<Answer, Memory>
     }
 }
 
-// The same values, in order.
-fn copied(alloc: Global, env: &[Shared]) -> Result<Vec<Shared>, Memory>
+/// The same values, in order, a step for each.
+pub fn copied(alloc: Global, env: &[Shared]) -> Result<Vec<Shared>, Memory>
     ensures { IfOk result (λ all. all.items ≡ env.now) }
 {
     let mut all = Vec::with_capacity(alloc, env.len())?;
@@ -144,8 +144,8 @@ fn copied(alloc: Global, env: &[Shared]) -> Result<Vec<Shared>, Memory>
     Ok(all)
 }
 
-// The shared values of small values, in order.
-fn shared_all(alloc: Global, values: &[Value]) -> Result<Vec<Shared>, Memory>
+/// The shared values of small values, in order.
+pub fn shared_all(alloc: Global, values: &[Value]) -> Result<Vec<Shared>, Memory>
     requires { AreSmall (map view_value values.now) }
     ensures { IfOk result (λ all. all.items ≡ map view_value values.now) }
 {

@@ -16,5 +16,5 @@ mod tests;
 
 pub use answer::Answer;
 pub use ending::Ending;
-pub use evaluation::{call, call_shared, eval, eval_shared};
+pub use evaluation::{answered, call, call_shared, copied, eval, eval_shared, shared_all};
 pub use shared::Shared;

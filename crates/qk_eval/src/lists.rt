@@ -1,7 +1,7 @@
 //! Walks along shared lists.
 ghost use Rattle.std.specs.Prelude.{◌≡◌, ◌≤◌, ◌<◌, IfOk, pos, IsTrue};
 ghost use Rattle.qk_value.specs.Data.{Data, list, datas_of};
-ghost use Rattle.qk_value.specs.Measures.{weight, depth, depths, IsSmall};
+ghost use Rattle.qk_value.specs.Measures.{depth, depths, IsSmall};
 ghost use Rattle.qk_eval.specs.Parts.{items_of, count, joined, is_list, small};
 
 use crate::shared::{Node, Shared, depth_all, weight_all};
@@ -14,13 +14,6 @@ impl Shared {
         ensures { IsSmall self.now }
     {
         let _ = &self.weight;
-    }
-
-    /// The weight, which was kept with the value.
-    pub fn weight(&self) -> u64
-        ensures { result ≡ weight self.now }
-    {
-        self.weight
     }
 
     /// The depth, which was kept with the value.
@@ -55,6 +48,14 @@ impl Shared {
         items_of(alloc, self)
     }
 
+    /// The value, or the empty list in place of what is no list.
+    pub fn as_list(self) -> Shared
+        ensures same { items_of result ≡ items_of self }
+        ensures list { IsTrue (is_list result) }
+    {
+        if self.is_list() { self } else { Shared::nil() }
+    }
+
     /// The list of these items, unless it is too heavy or else too deep. It costs a step for each item.
     #[tactic(auto, using(crate::proofs::ListLaws::joined_end))]
     pub fn list(alloc: Global, items: Vec<Shared>) -> Result<Result<Shared, Cause>, Memory>
@@ -66,16 +67,8 @@ impl Shared {
         if depth_all(&items) > 200 {
             return Ok(Err(Cause::Depth));
         }
-        let list = prepend(alloc, items, Shared::nil())?;
-        Ok(list)
-    }
-
-    /// The value, or the empty list in place of what is no list.
-    pub fn as_list(self) -> Shared
-        ensures same { items_of result ≡ items_of self }
-        ensures list { IsTrue (is_list result) }
-    {
-        if self.is_list() { self } else { Shared::nil() }
+        let all = prepend(alloc, items, Shared::nil())?;
+        Ok(all)
     }
 
     /// The items of one list and then of another, unless the list is too heavy or else too deep. It costs a step for each item of

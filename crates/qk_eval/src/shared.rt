@@ -149,6 +149,13 @@ impl Shared {
         })
     }
 
+    /// How heavy it is, which is kept with it.
+    pub fn weight(&self) -> u64
+        ensures { result ≡ weight_of self.now }
+    {
+        self.weight
+    }
+
     /// The number, or 0.
     pub fn number(&self) -> i64
         ensures { result ≡ number_of self.now }
@@ -296,7 +303,7 @@ fn bind_all(parts: &[Shared], env: &mut Vec<Shared>) -> Result<usize, Memory>
     Ok(parts.len())
 }
 
-// The weight of a value with these parts, or 65,537 where it is greater.
+/// The weight of a value with these parts, or 65,537 where it is greater.
 pub(crate) fn weight_all(parts: &[Shared]) -> u64
     ensures { result ≡ min (weights_of (datas_of parts.now) + 1) 65537 }
 {
@@ -307,6 +314,7 @@ pub(crate) fn weight_all(parts: &[Shared]) -> u64
     weight
 }
 
+/// The depth of a value with these parts.
 pub(crate) fn depth_all(parts: &[Shared]) -> u64
     ensures { result ≡ depths_of (datas_of parts.now) + 1 }
 {

@@ -1,1 +1,5 @@
+pub mod ChoiceLaws
+pub mod PendingLaws
+pub mod UnitsLaws
+pub mod ViewLaws
 mod Worked

@@ -1,5 +1,5 @@
 -- What a generator draws: a value with the units of fuel that are left, or a crash with its cause.
-use Rattle.std.specs.Prelude.{ℕ, zero, suc, ◌+◌, ◌-◌, ℤ, pos, negsuc, neg_ℤ, List, [], ◌∷◌, ◌++◌, Option, Some, None, min, nat_lt, if◌then◌else◌, length, slice_get, option_map}
+use Rattle.std.specs.Prelude.{ℕ, zero, suc, ◌+◌, ◌-◌, ℤ, pos, negsuc, neg_ℤ, List, [], ◌∷◌, ◌++◌, Option, Some, None, max, min, nat_lt, if◌then◌else◌, length, slice_get, option_map}
 use Rattle.std.specs.Int.{int_min, int_max}
 use Rattle.std.specs.Ordering.{int_eq}
 use Rattle.qk_base.specs.declared.outcome.Cause.TheVariants.{Fuel, Weight}
@@ -34,6 +34,10 @@ size_of z = min (length_of z) 1000
 -- one of so many places, by the next word
 abbrev pub place : Generator → ℕ → ℕ
 place g count = length_of (chosen g (pos 0) (pos (count - 1)))
+
+-- one of 1 to that many, by the next word
+abbrev pub up_to : Generator → ℕ → ℕ
+up_to g count = length_of (chosen g (pos 1) (pos (max count 1)))
 
 abbrev pub gens_count : GensData → ℕ
 gens_count gens.end = 0
@@ -90,7 +94,7 @@ module _ (functions : List FunctionData) (calls : Calls) where
     draws (gens.elements es) env size g u = one_expr functions (slice_get es (place g (length es))) env u
     draws (gens.one_of es) env size g u = draws_at es (place (left g) (gens_count es)) env size (right g) u
     draws (gens.frequency parts) env size g u =
-        draws_reached parts (length_of (chosen (left g) (pos 1) (pos (total_weight parts)))) env size (right g) u
+        draws_reached parts (up_to (left g) (total_weight parts)) env size (right g) u
     draws (gens.resize a e) env size g u = and_then (meaning functions a env u) (λ x v. draws e env (size_of (number_of x)) g v)
     draws (gens.bind d e) env size g u =
         and_then (draws d env size (left g) u) (λ x v. draws e (env ++ x ∷ []) size (right g) v)

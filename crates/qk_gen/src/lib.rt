@@ -1,6 +1,13 @@
-//! Drawing of values with fuel: what a generator draws, by definition.
+//! Drawing of values by generators, with fuel.
 #![tactic(auto)]
 
-mod stub;
+mod choices;
+mod drawing;
+mod expressions;
+mod items;
+mod machine;
+mod pending;
+mod steps;
 
-pub use stub::{draw_shared, draw_user_shared};
+pub use drawing::{draw, draw_shared, draw_user, draw_user_shared};
+pub use qk_eval::Answer;
