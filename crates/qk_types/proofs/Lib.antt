@@ -3,3 +3,5 @@ pub mod NameTables
 pub mod Counting
 pub mod Sequencing
 pub mod TypeForms
+pub mod Following
+pub mod Parts
