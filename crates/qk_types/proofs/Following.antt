@@ -24,3 +24,31 @@ same_truth true true h k = refl
 same_truth false false h k = refl
 same_truth true false h k = sym (k.1 (h.0 refl))
 same_truth false true h k = h.1 (k.0 refl)
+
+-- what is the same for every value, of one
+module _ {V A : Type 0} (x : Checked A) (f : V → Checked A) (v : V) (same : x ≡ f v) where
+  pub on_ok_at : (r : Result (Unit {0}) Fault) (after : Checked A) → OnOk r ((w : V) → f w ≡ after) → OnOk r (x ≡ after)
+  on_ok_at (Ok u) after h = same ∙ h v
+  on_ok_at (Err e) after h = tt
+
+  pub refused_at : (r : Result (Unit {0}) Fault) → IfErr r (λ e. IfRefusal e (λ s. (w : V) → f w ≡ Err s)) → IfErr r (λ e. IfRefusal e (λ s. x ≡ Err s))
+  refused_at (Ok u) h = tt
+  refused_at (Err faults.Memory) h = tt
+  refused_at (Err (faults.Refused s)) h = same ∙ h v
+
+-- .. for every two
+module _ {U V A : Type 0} (x : Checked A) (f : U → V → Checked A) (u : U) (v : V) (same : x ≡ f u v) where
+  pub on_ok_at_both : (r : Result (Unit {0}) Fault) (after : Checked A) → OnOk r ((t : U) (w : V) → f t w ≡ after) → OnOk r (x ≡ after)
+  on_ok_at_both (Ok o) after h = same ∙ h u v
+  on_ok_at_both (Err e) after h = tt
+
+  pub refused_at_both : (r : Result (Unit {0}) Fault) → IfErr r (λ e. IfRefusal e (λ s. (t : U) (w : V) → f t w ≡ Err s)) → IfErr r (λ e. IfRefusal e (λ s. x ≡ Err s))
+  refused_at_both (Ok o) h = tt
+  refused_at_both (Err faults.Memory) h = tt
+  refused_at_both (Err (faults.Refused s)) h = same ∙ h u v
+
+pub refused_there_at : {V A : Type 0} (f : Fault) (g : V → Checked A) (code : ℕ) (p : Place) → f ≡ faults.Refused (record { code = code; place = p }) → ((v : V) → g v ≡ refuse code p) → IfRefusal f (λ s. (v : V) → g v ≡ Err s)
+refused_there_at f g code p made same = subst (λ e. IfRefusal e (λ s. (v : _) → g v ≡ Err s)) (sym made) same
+
+pub refused_there_at_both : {U V A : Type 0} (f : Fault) (g : U → V → Checked A) (code : ℕ) (p : Place) → f ≡ faults.Refused (record { code = code; place = p }) → ((u : U) (v : V) → g u v ≡ refuse code p) → IfRefusal f (λ s. (u : U) (v : V) → g u v ≡ Err s)
+refused_there_at_both f g code p made same = subst (λ e. IfRefusal e (λ s. (u : _) (v : _) → g u v ≡ Err s)) (sym made) same

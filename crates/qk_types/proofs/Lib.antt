@@ -5,3 +5,6 @@ pub mod Sequencing
 pub mod TypeForms
 pub mod Following
 pub mod Parts
+pub mod WrongCounts
+pub mod DrawForms
+pub mod Entries

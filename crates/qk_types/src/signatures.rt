@@ -19,7 +19,7 @@ use qk_syntax::{Node, Tree};
 use std::alloc::Global;
 
 /// Whether no variable may have the name.
-fn is_truth(word: &[u8]) -> bool
+pub fn is_truth(word: &[u8]) -> bool
     ensures { result ≡ is_truth_word word.now }
 {
     word == b"true".as_slice() || word == b"false".as_slice()
