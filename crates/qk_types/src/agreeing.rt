@@ -96,6 +96,7 @@ pub fn is_from_one(found: Option<&Signature>, first: &Ty, to: &Ty) -> bool
     }
 }
 
+/// Whether it takes values of these two types and gives one of the last.
 pub fn is_from_two(found: Option<&Signature>, first: &Ty, second: &Ty, to: &Ty) -> bool
     ensures { result ≡ is_from_to (unwrap_or (option_copied found.entry) no_signature) (view_type first.now ∷ view_type second.now ∷ []) (view_type to.now) }
 {
@@ -107,6 +108,7 @@ pub fn is_from_two(found: Option<&Signature>, first: &Ty, second: &Ty, to: &Ty) 
     }
 }
 
+/// Whether it takes values of these three types and gives one of the last.
 pub fn is_from_three(
     found: Option<&Signature>,
     first: &Ty,

@@ -1,5 +1,5 @@
 //! The clauses that are marks.
-ghost use Rattle.std.specs.Prelude.{◌≡◌, Ok, Err, OnOk, IfErr};
+ghost use Rattle.std.specs.Prelude.{◌≡◌, List, Ok, Err, OnOk, IfErr};
 ghost use Rattle.qk_core.specs.Properties.{BinderData};
 ghost use Rattle.qk_core.specs.PropertyView.{view_mark};
 ghost use Rattle.qk_syntax.specs.Refusals.{IfRefusal};
@@ -9,7 +9,6 @@ ghost use Rattle.qk_types.specs.Clauses.{with_mark, clause_parts as clause_of_pa
 ghost use Rattle.qk_types.specs.ClausesView.{clauses_in};
 ghost use Rattle.qk_types.specs.Operators.{Tables as TablesData};
 ghost use Rattle.qk_types.specs.TablesView.{tables_in};
-ghost use Rattle.std.specs.Prelude.{List};
 
 use crate::binders::Bound;
 use crate::clause_heads::Clauses;
@@ -27,6 +26,7 @@ fn add_mark(before: &mut Clauses, mark: Mark) -> Result<(), Memory>
     before.marks.add(mark)
 }
 
+/// The name is a label of every attempt.
 pub fn label_clause(
     alloc: Global,
     before: &mut Clauses,
@@ -44,6 +44,7 @@ pub fn label_clause(
     Ok(())
 }
 
+/// The text of the value is a label.
 pub fn collect_clause(
     alloc: Global,
     tables: &Tables,
@@ -65,6 +66,7 @@ pub fn collect_clause(
     Ok(())
 }
 
+/// The attempts where the expression is true are a class of that name.
 pub fn classify_clause(
     alloc: Global,
     tables: &Tables,
@@ -86,6 +88,7 @@ pub fn classify_clause(
     Ok(())
 }
 
+/// The text of the value is an entry of the named table.
 pub fn tabulate_clause(
     alloc: Global,
     tables: &Tables,
@@ -108,6 +111,7 @@ pub fn tabulate_clause(
     Ok(())
 }
 
+/// So many of a hundred attempts are wanted in a class.
 pub fn cover_clause(
     alloc: Global,
     tables: &Tables,

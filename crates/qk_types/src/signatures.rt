@@ -1,5 +1,5 @@
 //! The headers of functions and generators: their parameters and the type of their result.
-ghost use Rattle.std.specs.Prelude.{◌≡◌, [], Ok, Err, OnOk, IfOk, IfErr, map};
+ghost use Rattle.std.specs.Prelude.{◌≡◌, [], Ok, Err, OnOk, IfOk, IfErr, bytes_eq, map};
 ghost use Rattle.qk_syntax.specs.PlainTrees.{list, end, more};
 ghost use Rattle.qk_syntax.specs.Refusals.{IfRefusal};
 ghost use Rattle.qk_syntax.specs.View.{view, views};
@@ -7,7 +7,6 @@ ghost use Rattle.qk_types.specs.Headers.{named_parameter as named_parameter_of, 
 ghost use Rattle.qk_types.specs.NameTable.{names_in};
 ghost use Rattle.qk_types.specs.Scopes.{is_truth_word, new_variable as new_variable_of};
 ghost use Rattle.std.specs.List.{list_any};
-ghost use Rattle.std.specs.Prelude.{bytes_eq};
 
 use crate::checking::{at_most, bind};
 use crate::names::Names;

@@ -9,11 +9,11 @@ use qk_base::{Bytes, Fault, Memory, Seq};
 use qk_syntax::{Tree, read};
 use std::alloc::Global;
 
-/// `named` where the names have no fault, or the refusal as a report prints it.
+/// `no fault`, or the refusal as a report prints it.
 fn spoken<T: Drop>(alloc: Global, checked: Result<T, Fault>) -> Result<Bytes, Memory> {
     let mut out = Bytes::make(alloc);
     match checked {
-        Ok(_) => out.append(b"named")?,
+        Ok(_) => out.append(b"no fault")?,
         Err(Fault::Memory) => return Err(Memory),
         Err(Fault::Refused(r)) => {
             let text = format!(in alloc;
@@ -39,7 +39,7 @@ fn names_at_fault(rt: HostRuntime) -> Result<(), Memory> {
     let cases: [(&[u8], &[u8]); 14] = [
         (b"", b"refused 28 at 1:1"),
         (b"(fun f)", b"refused 28 at 1:1"),
-        (b"(prop a)", b"named"),
+        (b"(prop a)", b"no fault"),
         (b"()", b"refused 20 at 1:1"),
         (b"(foo a)", b"refused 20 at 1:1"),
         (b"(type)", b"refused 23 at 1:1"),
@@ -55,7 +55,7 @@ fn names_at_fault(rt: HostRuntime) -> Result<(), Memory> {
         ),
         (
             b"(type T (A a b c d e f g h i j k l m n o p)) (prop p)",
-            b"named",
+            b"no fault",
         ),
     ];
     for (text, want) in cases {
@@ -86,7 +86,7 @@ fn headers_at_fault(rt: HostRuntime) -> Result<(), Memory> {
     let cases: [(&[u8], &[u8]); 18] = [
         (
             b"(type T (A Int (List T))) (prop p (forall ((x y))))",
-            b"named",
+            b"no fault",
         ),
         (b"(type T (A Foo)) (prop p)", b"refused 22 at 1:12"),
         (b"(fun f) (prop p)", b"refused 23 at 1:1"),
