@@ -3,3 +3,8 @@ pub mod NameTables
 pub mod Counting
 pub mod Sequencing
 pub mod TypeForms
+pub mod Following
+pub mod Parts
+pub mod WrongCounts
+pub mod DrawForms
+pub mod Entries

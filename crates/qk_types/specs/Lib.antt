@@ -1,7 +1,10 @@
 pub mod Binders
 pub mod Bodies
+pub mod BoundView
 pub mod Checks
 pub mod Clauses
+pub mod ClausesView
+pub mod DraftView
 pub mod Drawing
 pub mod Elaboration
 pub mod Expressions
@@ -11,6 +14,7 @@ pub mod Models
 pub mod NameTable
 pub mod Names
 pub mod Operators
+pub mod PartsView
 pub mod Patterns
 pub mod Reserved
 pub mod Scopes

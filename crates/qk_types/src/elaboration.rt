@@ -2,8 +2,13 @@
 ghost use Rattle.std.specs.Prelude.{◌≡◌, ◌≤◌, Ok, Err, IfOk, IfErr, length};
 ghost use Rattle.qk_syntax.specs.Refusals.{IfRefusal};
 ghost use Rattle.qk_syntax.specs.View.{views};
+ghost use Rattle.qk_types.specs.DraftView.{draft_in, size_of};
 ghost use Rattle.qk_types.specs.Elaboration.{elaborated};
 
+use crate::bodies::{Draft, bodies_of};
+use crate::headers::headers_of;
+use crate::naming::names_of;
+use crate::tables::{Headers, Tables};
 use qk_base::{Fault, Seq};
 use qk_core::Core;
 use qk_syntax::Tree;
@@ -16,5 +21,24 @@ pub fn elaborate(alloc: Global, trees: &Seq<Tree>) -> Result<Core, Fault>
     ensures program { IfOk result (λ core. elaborated (views trees.now.items) ≡ Ok core) }
     ensures refused { IfErr result (λ e. IfRefusal e (λ r. elaborated (views trees.now.items) ≡ Err r)) }
 {
-    Err(Fault::Memory)
+    let items = trees.as_slice();
+    let names = names_of(alloc, items)?;
+    let headers = headers_of(alloc, &names, items)?;
+    let tables = Tables { names, headers };
+    let draft = bodies_of(alloc, &tables, items)?;
+    Ok(core_of(tables.headers, draft))
+}
+
+/// The program of these kinds and bodies.
+fn core_of(headers: Headers, draft: Draft) -> Core
+    requires { size_of draft ≤ 1000 }
+    ensures { result ≡ draft_in headers.kinds draft }
+{
+    let Draft {
+        functions,
+        generators,
+        models,
+        properties,
+    } = draft;
+    Core::of_tables(headers.kinds, functions, generators, models, properties)
 }

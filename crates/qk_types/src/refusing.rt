@@ -12,9 +12,13 @@ pub const UNKNOWN_NAME: u16 = 22;
 
 pub const WRONG_COUNT: u16 = 23;
 
+pub const WRONG_TYPE: u16 = 24;
+
 pub const EMPTY_DATA: u16 = 27;
 
 pub const NO_PROPERTY: u16 = 28;
+
+pub const NO_PERCENTAGE: u16 = 30;
 
 /// The most fields of a maker and parameters of a function.
 pub const MOST_PARTS: usize = 16;
