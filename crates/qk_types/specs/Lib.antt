@@ -14,7 +14,7 @@ pub mod Models
 pub mod NameTable
 pub mod Names
 pub mod Operators
-pub mod PartsView
+pub mod ModelPartsView
 pub mod Patterns
 pub mod Reserved
 pub mod Scopes
