@@ -1,16 +1,25 @@
 //! Elaboration: the checked program that trees stand for, or the first fault in the written order of checks.
 #![tactic(auto)]
 
+mod atoms;
 mod elaboration;
 mod expressions;
 mod generators;
+mod heads;
+mod lists;
+mod matching;
 mod names;
 mod naming;
+mod nodes;
+mod operators;
+mod patterns;
 mod refusing;
 mod reserved;
+mod scopes;
 mod tables;
 #[cfg(test)]
 mod tests;
 mod types_of;
+mod typing;
 
 pub use elaboration::elaborate;
