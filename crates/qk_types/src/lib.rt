@@ -2,6 +2,7 @@
 #![tactic(auto)]
 
 mod agreeing;
+mod atoms;
 mod binders;
 mod bodies;
 mod checking;
@@ -15,18 +16,26 @@ mod expressions;
 mod generators;
 mod header_parts;
 mod headers;
+mod heads;
+mod lists;
 mod mark_clauses;
+mod matching;
 mod models;
 mod names;
 mod naming;
+mod nodes;
+mod operators;
+mod patterns;
 mod properties;
 mod refusing;
 mod reserved;
+mod scopes;
 mod signatures;
 mod signed;
 mod tables;
 #[cfg(test)]
 mod tests;
 mod types_of;
+mod typing;
 
 pub use elaboration::elaborate;

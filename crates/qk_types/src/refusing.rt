@@ -14,9 +14,15 @@ pub const WRONG_COUNT: u16 = 23;
 
 pub const WRONG_TYPE: u16 = 24;
 
+pub const MISSING_CASE: u16 = 25;
+
+pub const DOUBLED_CASE: u16 = 26;
+
 pub const EMPTY_DATA: u16 = 27;
 
 pub const NO_PROPERTY: u16 = 28;
+
+pub const WRONG_WEIGHT: u16 = 29;
 
 pub const NO_PERCENTAGE: u16 = 30;
 

@@ -48,13 +48,15 @@ fn headed_type(alloc: Global, names: &Names, place: Place, parts: &[Tree]) -> Re
     }
 }
 
+/// The type of lists of these items.
 pub fn listed(alloc: Global, item: Ty) -> Result<Ty, Memory>
     ensures { IfOk result (λ t. view_type t ≡ list_type (view_type item)) }
 {
     Ok(Ty::List(Box::new(alloc, item)?))
 }
 
-fn paired(alloc: Global, first: Ty, second: Ty) -> Result<Ty, Memory>
+/// The type of pairs of these parts.
+pub fn paired(alloc: Global, first: Ty, second: Ty) -> Result<Ty, Memory>
     ensures { IfOk result (λ t. view_type t ≡ pair_type (view_type first) (view_type second)) }
 {
     let first = Box::new(alloc, first)?;
