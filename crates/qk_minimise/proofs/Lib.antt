@@ -2,3 +2,4 @@ pub mod Descents
 pub mod Examples
 pub mod Frontiers
 pub mod Numbered
+pub mod OneByOne
