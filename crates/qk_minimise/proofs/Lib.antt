@@ -3,3 +3,4 @@ pub mod Examples
 pub mod Frontiers
 pub mod Numbered
 pub mod OneByOne
+pub mod Turns

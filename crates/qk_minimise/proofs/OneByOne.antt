@@ -1,5 +1,5 @@
 -- The first failing candidate, one candidate after another.
-use Rattle.std.proofs.Common.{◌≡◌, ℕ, suc, ◌+◌, ◌<◌, Bool, true, false, Some, List, ◌∷◌, length, drop, slice_get, refl, sym, ◌∙◌, ap, arith}
+use Rattle.std.proofs.Common.{◌≡◌, ℕ, suc, ◌+◌, Bool, true, false, Some, List, drop, slice_get, refl, sym, ◌∙◌, ap, arith}
 use Rattle.std.specs.List.{position, position_from}
 use Rattle.qk_minimise.proofs.Frontiers.{IsFirst, drop_at}
 

@@ -1,3 +1,4 @@
 pub mod Candidates
 pub mod Descent
 pub mod Minimal
+pub mod Walk

@@ -6,6 +6,8 @@ mod frontier;
 mod minimum;
 #[cfg(test)]
 mod tests;
+mod walking;
 
 pub use descent::descend;
 pub use minimum::Minimum;
+pub use walking::walk;
