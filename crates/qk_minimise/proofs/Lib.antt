@@ -1,3 +1,4 @@
+pub mod Closing
 pub mod Descents
 pub mod Examples
 pub mod Frontiers

@@ -1,5 +1,6 @@
 -- Points on a path, and the turns of a walker.
-use Rattle.std.proofs.Common.{◌≡◌, ℕ, zero, suc, ◌+◌, ◌<◌, ◌≤◌, Bool, false, Some, List, [], ◌∷◌, ◌++◌, length, length-append, slice_get, All, sym, refl, ap, ◌∙◌, subst, arith}
+use Rattle.std.proofs.Common.{◌≡◌, ℕ, zero, suc, ◌+◌, ◌<◌, ◌≤◌, Bool, true, false, Some, List, [], ◌∷◌, ◌++◌, length, length-append, slice_get, get_or, drop, add-one, All, sym, refl, ap, ◌∙◌, subst, arith}
+use Rattle.std.proofs.Math.Seq.{drop-cons}
 use Rattle.std.proofs.lemmas.List.Elements.{All-tail}
 use mathlib.Core.Logic.{dite}
 use native.Mathlib.Decide.{ℕ_discrete}
@@ -99,3 +100,27 @@ module _ {F P : Type 0} (children : P → List P) (failing : P → Bool) (p : P)
     -- after a look and a claim
     pub claimed_looks : (u : PathView F P) → u ≡ with_draw (with_miss v) n → u.missed ≡ length u.draws
     claimed_looks u is = ap (λ a. a.missed) is ∙ (one_more ∙ sym (ap (λ a. length a.draws) is))
+
+-- one step along a path
+module _ {P : Type 0} (children : P → List P) (failing : P → Bool) (Q : P → Type 0) (law : (q : P) → Q q → All Q (children q)) (point next : P) (listed : List P) (path : List ℕ) (i : ℕ) (within : i < length path)
+    (owned : Q point) (leads : Leads children failing point (drop i path)) (same : listed ≡ children point) (got : slice_get listed (get_or path i 0) ≡ Some next) where
+  first : drop i path ≡ get_or path i 0 ∷ drop (i + 1) path
+  first = rw add-one (drop-cons path i 0 within)
+
+  here : Leads children failing point (get_or path i 0 ∷ drop (i + 1) path)
+  here = subst (Leads children failing point) first leads
+
+  next_is : nth point (children point) (get_or path i 0) ≡ next
+  next_is = nth_of point (children point) (get_or path i 0) next (subst (λ (l : List P). slice_get l (get_or path i 0) ≡ Some next) same got)
+
+  pub step_owned : Q next
+  step_owned = subst Q next_is (nth_all Q point (children point) (get_or path i 0) here.0 (law point owned))
+
+  pub step_fails : failing next ≡ true
+  step_fails = subst (λ q. failing q ≡ true) next_is here.1
+
+  pub step_leads : Leads children failing next (drop (i + 1) path)
+  step_leads = subst (λ q. Leads children failing q (drop (i + 1) path)) next_is here.2
+
+  pub step_reached : reached children next (drop (i + 1) path) ≡ reached children point (drop i path)
+  step_reached = sym (ap (λ q. reached children q (drop (i + 1) path)) next_is) ∙ sym (ap (reached children point) first)

@@ -11,6 +11,7 @@ use std::test::Fail;
 use std::thread::Threads;
 
 mod plain;
+mod shrinks;
 
 /// The numbers below 32. The candidates of x are x less x, x / 2, x / 4 and so on. What is at least `least` fails, and two more.
 #[derive(Drop)]
