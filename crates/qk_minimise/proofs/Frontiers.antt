@@ -24,7 +24,7 @@ in_prefix m [] = refl
 in_prefix m (true ∷ bs) = refl
 in_prefix m (false ∷ bs) = in_prefix (m + 1) bs
 
-drop_at : {P : Type 0} (ps : List P) (k : ℕ) (p : P) → slice_get ps k ≡ Some p → drop k ps ≡ p ∷ drop (suc k) ps
+pub drop_at : {P : Type 0} (ps : List P) (k : ℕ) (p : P) → slice_get ps k ≡ Some p → drop k ps ≡ p ∷ drop (suc k) ps
 drop_at [] k p h = cc
 drop_at (x ∷ xs) zero p h = let same : x ≡ p = cc in ap (λ o. o ∷ xs) same
 drop_at (x ∷ xs) (suc k) p h = drop_at xs k p h

@@ -1,4 +1,7 @@
+pub mod Closing
 pub mod Descents
 pub mod Examples
 pub mod Frontiers
 pub mod Numbered
+pub mod OneByOne
+pub mod Turns

@@ -1,12 +1,17 @@
 //! Descents over numbers.
-ghost use Rattle.std.specs.Prelude.{◌≡◌, ◌+◌, ◌-◌, ◌/◌, ◌^◌, ◌==◌, ◌||◌, ⊤, min, nat_le, map, length};
+ghost use Rattle.std.specs.Prelude.{◌≡◌, true, ◌<◌, ◌≤◌, ◌+◌, ◌-◌, ◌/◌, ◌^◌, ◌==◌, ◌||◌, ⊤, min, nat_le, map, length};
 ghost use Rattle.std.specs.List.{range_with_len};
 
+use self::plain::slow_descent;
 use crate::{Minimum, descend};
 use qk_base::{Family, Memory, OpenGate};
 use std::alloc::Global;
 use std::process::Abort;
 use std::test::Fail;
+use std::thread::Threads;
+
+mod plain;
+mod shrinks;
 
 /// The numbers below 32. The candidates of x are x less x, x / 2, x / 4 and so on. What is at least `least` fails, and two more.
 #[derive(Drop)]
@@ -139,6 +144,66 @@ fn frontiers_follow_each_other(rt: HostRuntime) -> Result<(), Fail> {
             let below = Below { least };
             let found = descend(&rt, rt.alloc(), &OpenGate, &below, 5000, 1024, workers)?;
             expect(&rt, &found, least, &[least], tried, false);
+        }
+    }
+    Ok(())
+}
+
+/// Whether the plain slow program comes to the same.
+fn agree<R: Threads + Sync, F: Family<Point = u64>>(
+    rt: &R,
+    alloc: Global,
+    family: &F,
+    start: u64,
+    limit: u32,
+    workers: u32,
+) -> Result<bool, Memory>
+    requires start { F.owns family.now start × (F.failing family.now start ≡ true) }
+    requires limit { limit ≤ 1024 }
+    requires workers { (0 < workers) × (workers ≤ 64) }
+{
+    let slow = slow_descent(alloc, family, start, limit)?;
+    let found = descend(rt, alloc, &OpenGate, family, start, limit, workers)?;
+    let same_end = found.point == slow.point && found.limit_met == slow.limit_met;
+    Ok(same_end && found.tried == slow.tried && found.path.as_slice() == slow.path.as_slice())
+}
+
+#[test]
+fn the_plain_program_halves_alike(rt: HostRuntime) -> Result<(), Fail> {
+    for (least, more, start, limit) in [
+        (0, (0, 0), 31, 1024),
+        (1, (1, 1), 31, 1024),
+        (5, (5, 5), 8, 1024),
+        (5, (5, 5), 31, 2),
+        (5, (5, 5), 31, 1),
+        (5, (5, 5), 31, 0),
+        (16, (8, 12), 16, 1024),
+        (17, (3, 9), 30, 1024),
+        (31, (31, 31), 31, 1024),
+    ] {
+        let halves = Halves { least, more };
+        for workers in [1, 2, 64] {
+            let same = agree(&rt, rt.alloc(), &halves, start, limit, workers)?;
+            assert!(rt; same, "from {start} by at most {limit} steps");
+        }
+    }
+    Ok(())
+}
+
+#[test]
+fn the_plain_program_goes_below_alike(rt: HostRuntime) -> Result<(), Fail> {
+    for (least, start, limit) in [
+        (0, 1, 1024),
+        (1, 1, 1024),
+        (4095, 5000, 1024),
+        (4096, 5000, 1),
+        (4999, 9000, 1024),
+        (7000, 9000, 1024),
+    ] {
+        let below = Below { least };
+        for workers in [1, 2, 64] {
+            let same = agree(&rt, rt.alloc(), &below, start, limit, workers)?;
+            assert!(rt; same, "from {start} by at most {limit} steps");
         }
     }
     Ok(())

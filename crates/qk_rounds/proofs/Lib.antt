@@ -4,6 +4,7 @@ pub mod Driving
 pub mod Dues
 pub mod Examples
 pub mod Longer
+pub mod OneAttempt
 pub mod Placing
 pub mod Predicts
 pub mod RoundParts

@@ -9,6 +9,9 @@ use qk_schedule::{Course, Limits, QuickCourse};
 use std::alloc::Global;
 use std::test::Fail;
 
+mod compared;
+mod plain;
+
 /// Attempts of size 1 are discarded, those of size 3 fail, all others pass.
 #[derive(Drop)]
 struct Sizes {
