@@ -17,7 +17,7 @@ pub mod Models
 pub mod NameTable
 pub mod Names
 pub mod Operators
-pub mod ModelPartsView
+pub mod ModelView
 pub mod PartsView
 pub mod Patterns
 pub mod Reserved
