@@ -10,11 +10,11 @@ pub mod Elaboration
 pub mod Expressions
 pub mod Generators
 pub mod Headers
+pub mod ModelView
 pub mod Models
 pub mod NameTable
 pub mod Names
 pub mod Operators
-pub mod PartsView
 pub mod Patterns
 pub mod Reserved
 pub mod Scopes

@@ -8,7 +8,7 @@ ghost use Rattle.qk_types.specs.Checks.{check, place_of};
 ghost use Rattle.qk_types.specs.Drawing.{draws_type as draws_type_of};
 ghost use Rattle.qk_types.specs.Models.{is_from_to, same_types};
 ghost use Rattle.qk_types.specs.Operators.{has_type as has_type_of, no_signature};
-ghost use Rattle.qk_types.specs.PartsView.{expression_of_type};
+ghost use Rattle.qk_types.specs.ModelView.{expression_of_type};
 ghost use Rattle.qk_types.specs.Scopes.{types_of};
 ghost use Rattle.qk_types.specs.TablesView.{tables_in, typed_in, drawn_in};
 ghost use Rattle.qk_value.specs.Types.{bool_type};

@@ -5,7 +5,7 @@ ghost use Rattle.qk_syntax.specs.PlainTrees.{list};
 ghost use Rattle.qk_syntax.specs.Refusals.{IfRefusal};
 ghost use Rattle.qk_syntax.specs.View.{view, views};
 ghost use Rattle.qk_types.specs.Models.{closed as closed_of, command_at as command_of, abstract_at as abstract_of, system_at as system_of, model_at as model_of};
-ghost use Rattle.qk_types.specs.PartsView.{abstract_in, system_in};
+ghost use Rattle.qk_types.specs.ModelView.{abstract_in, system_in};
 ghost use Rattle.qk_types.specs.TablesView.{tables_in};
 ghost use Rattle.qk_value.specs.View.{view_type};
 

@@ -48,6 +48,7 @@ fn headed_type(alloc: Global, names: &Names, place: Place, parts: &[Tree]) -> Re
     }
 }
 
+/// The type of lists of these items.
 pub fn listed(alloc: Global, item: Ty) -> Result<Ty, Memory>
     ensures { IfOk result (λ t. view_type t ≡ list_type (view_type item)) }
 {

@@ -1,7 +1,7 @@
 use Rattle.std.proofs.Common.{sym, Ok}
 use Rattle.qk_core.specs.ExprView.{view_expr}
 use Rattle.qk_syntax.specs.View.{view}
-use Rattle.qk_types.specs.PartsView.{expression_of_type}
+use Rattle.qk_types.specs.ModelView.{expression_of_type}
 use Rattle.qk_types.specs.TablesView.{tables_in}
 use Rattle.qk_types.proofs.Following.{if_ok_by, refused_by}
 use Rattle.qk_types.proofs.clause_values.truth_at.Goals as goal
