@@ -1,9 +1,8 @@
 -- What a binder draws, by whether `commands` heads it.
-use Rattle.std.proofs.Common.{◌≡◌, ◌∙◌, Bool, true, false, refl, ap, if◌then◌else◌}
-use Rattle.qk_syntax.specs.PlainTrees.{PlainTree, number, name, list, PlainTrees, end, more}
-use Rattle.qk_types.specs.Binders.{TypedDraw, draw_at, drawn_by}
+use Rattle.std.proofs.Common.{◌≡◌, ◌∙◌, true, false, refl, ap, if◌then◌else◌}
+use Rattle.qk_syntax.specs.PlainTrees.{PlainTree, number, name, list, end, more}
+use Rattle.qk_types.specs.Binders.{draw_at, drawn_by}
 use Rattle.qk_types.specs.BoundView.{is_commands, headed_commands}
-use Rattle.qk_types.specs.Checks.{Checked}
 use Rattle.qk_types.specs.Operators.{Tables}
 use Rattle.qk_types.specs.Scopes.{Scope}
 

@@ -1,10 +1,10 @@
 -- Checks of parts by how many there are.
-use Rattle.std.proofs.Common.{◌≡◌, ◌∙◌, ℕ, ◌+◌, ◌≤◌, ◌<◌, Bool, true, false, ◌&&◌, nat_le, nat_eq, List, [], ◌∷◌, length, refl, sym, ap, arith}
+use Rattle.std.proofs.Common.{◌≡◌, ◌∙◌, ℕ, ◌+◌, ◌≤◌, ◌<◌, true, false, nat_le, nat_eq, List, [], ◌∷◌, length, refl, sym, ap, arith}
 use Rattle.qk_base.specs.declared.place.Place.{Place}
-use Rattle.qk_syntax.specs.PlainTrees.{PlainTree, number, name, list, PlainTrees, end, more, count}
+use Rattle.qk_syntax.specs.PlainTrees.{number, name, list, PlainTrees, end, more, count}
 use Rattle.qk_syntax.specs.View.{views}
 use Rattle.qk_syntax.specs.declared.tree.Tree.{Tree}
-use Rattle.qk_types.specs.Checks.{check, refuse}
+use Rattle.qk_types.specs.Checks.{refuse}
 use Rattle.qk_types.specs.Headers.{parameter_at, signature_at, model_types, property_shape}
 use Rattle.qk_types.specs.Names.{Declared}
 use Rattle.qk_types.specs.Scopes.{Scope}

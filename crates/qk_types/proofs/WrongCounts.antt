@@ -1,5 +1,5 @@
 -- Wrong numbers of parts are refused.
-use Rattle.std.proofs.Common.{◌≡◌, ◌∙◌, ℕ, ◌+◌, ◌<◌, ◌≤◌, List, [], ◌∷◌, length, refl, sym, arith}
+use Rattle.std.proofs.Common.{◌≡◌, ◌∙◌, ◌<◌, ◌≤◌, List, [], ◌∷◌, length, refl, sym, arith}
 use Rattle.qk_base.specs.declared.place.Place.{Place}
 use Rattle.qk_syntax.specs.PlainTrees.{number, name, list, PlainTrees, end, more, count}
 use Rattle.qk_syntax.specs.View.{views}
@@ -9,7 +9,7 @@ use Rattle.qk_core.specs.Properties.{BinderData}
 use Rattle.qk_types.specs.Binders.{commands_of, shrink_with, binder_at}
 use Rattle.qk_types.specs.Bodies.{function_body, generator_body, property_body}
 use Rattle.qk_types.specs.Checks.{refuse}
-use Rattle.qk_types.specs.Clauses.{Clauses, Head, clause_parts, given, checks, checks_runs, labels, collects, classifies, tabulates, covers}
+use Rattle.qk_types.specs.Clauses.{Clauses, clause_parts, given, checks, checks_runs, labels, collects, classifies, tabulates, covers}
 use Rattle.qk_types.specs.Headers.{ModelTypesData, SignatureData}
 use Rattle.qk_types.specs.Models.{command_at, abstract_at, system_at, model_at}
 use Rattle.qk_types.specs.Operators.{Tables}

@@ -13,11 +13,11 @@ pub mod Expressions
 pub mod Generators
 pub mod HeadForms
 pub mod Headers
+pub mod ModelView
 pub mod Models
 pub mod NameTable
 pub mod Names
 pub mod Operators
-pub mod ModelView
 pub mod PartsView
 pub mod Patterns
 pub mod Reserved

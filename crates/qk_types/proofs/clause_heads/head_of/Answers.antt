@@ -1,4 +1,4 @@
-use Rattle.std.proofs.Common.{◌∙◌, sym, List, [], ◌∷◌, codes}
+use Rattle.std.proofs.Common.{◌∙◌, sym, List, ◌∷◌, codes}
 use Rattle.qk_types.specs.Clauses.{Head, given, checks, checks_runs}
 use Rattle.qk_types.specs.ClausesView.{mark_entries}
 use Rattle.qk_types.specs.Reserved.{Word}

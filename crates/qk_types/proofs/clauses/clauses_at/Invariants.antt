@@ -1,7 +1,7 @@
 -- What is left comes to what the whole does.
 use Rattle.std.proofs.Common.{◌≡◌, drop}
 use Rattle.qk_syntax.specs.View.{views}
-use Rattle.qk_types.specs.BoundView.{Sees, KeepsBound}
+use Rattle.qk_types.specs.BoundView.{KeepsBound}
 use Rattle.qk_types.specs.Clauses.{clauses_at, no_clauses}
 use Rattle.qk_types.specs.ClausesView.{clauses_in}
 use Rattle.qk_types.specs.TablesView.{tables_in}

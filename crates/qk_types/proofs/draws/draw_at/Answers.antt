@@ -1,6 +1,6 @@
-use Rattle.std.proofs.Common.{◌≡◌, ◌∙◌, sym, Ok, false, rules}
+use Rattle.std.proofs.Common.{◌∙◌, sym, Ok}
 use Rattle.qk_syntax.specs.View.{view}
-use Rattle.qk_types.specs.BoundView.{draw_in, is_commands}
+use Rattle.qk_types.specs.BoundView.{draw_in}
 use Rattle.qk_types.specs.TablesView.{tables_in}
 use Rattle.qk_types.proofs.DrawForms.{others_drawn}
 use Rattle.qk_types.proofs.Following.{if_ok_by, refused_by}
