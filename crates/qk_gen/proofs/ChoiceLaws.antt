@@ -1,11 +1,10 @@
 -- Laws of one of several generators, and of the values of several expressions.
-use Rattle.std.proofs.Common.{◌≡◌, ℕ, ℤ, zero, suc, ◌+◌, List, [], ◌∷◌, ◌++◌, Option, Some, None, map, length, slice_get, option_map, refl, ap, sym, ◌∙◌, arith, append_assoc}
+use Rattle.std.proofs.Common.{◌≡◌, ℕ, ℤ, zero, suc, List, [], ◌∷◌, ◌++◌, length, slice_get, option_map, refl, ap, sym, append_assoc}
 use Rattle.std.proofs.lemmas.List.{append-nil}
 use Rattle.qk_base.specs.declared.outcome.Cause.{Cause}
 use Rattle.qk_core.specs.Definitions.{FunctionData}
 use Rattle.qk_core.specs.ExprData.{ExprData, ExprsData}
 use Rattle.qk_core.specs.ExprData as exprs
-use Rattle.qk_core.specs.ExprView.{view_expr, view_exprs}
 use Rattle.qk_core.specs.GenView.{view_gen, view_gens}
 use Rattle.qk_core.specs.declared.gen_expr.GenExpr.{GenExpr}
 use Rattle.qk_eval.specs.Meaning.{Evaluated, result, crash, and_then, meaning, mean_all, calling}

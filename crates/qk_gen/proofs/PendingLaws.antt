@@ -1,5 +1,5 @@
 -- Laws of what is pending.
-use Rattle.std.proofs.Common.{◌≡◌, ℕ, zero, suc, ◌+◌, ◌-◌, ◌≢◌, List, [], ◌∷◌, ◌++◌, Bool, true, false, nat_lt, if◌then◌else◌, refl, ap, sym, ◌∙◌, append_assoc, sub-one}
+use Rattle.std.proofs.Common.{◌≡◌, ℕ, zero, suc, ◌+◌, ◌-◌, ◌≢◌, List, [], ◌∷◌, ◌++◌, Bool, true, false, nat_lt, if◌then◌else◌, refl, ap, sym, append_assoc, sub-one}
 use Rattle.qk_base.specs.declared.outcome.Cause.TheVariants.{Weight}
 use Rattle.qk_core.specs.Definitions.{FunctionData, UserGenData}
 use Rattle.qk_core.specs.GenData.{GenData, GensData}

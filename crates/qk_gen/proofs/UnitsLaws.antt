@@ -1,16 +1,16 @@
 -- A drawing looks at calls with no more units than it has, and leaves no more.
-use Rattle.std.proofs.Common.{◌≡◌, ℕ, zero, suc, ◌+◌, ◌-◌, ◌≤◌, List, [], ◌∷◌, ◌++◌, Option, Some, None, nat_lt, if◌then◌else◌, refl, arith, le_refl, le_trans, ◌≢◌, sub-one, slice_get, length}
-use Rattle.qk_base.specs.declared.outcome.Cause.TheVariants.{Fuel, Weight}
+use Rattle.std.proofs.Common.{◌≡◌, ℕ, zero, suc, ◌+◌, ◌-◌, ◌≤◌, List, [], ◌∷◌, ◌++◌, Option, Some, None, nat_lt, refl, arith, le_refl, le_trans, ◌≢◌, sub-one, slice_get, length}
+use Rattle.qk_base.specs.declared.outcome.Cause.TheVariants.{Fuel}
 use Rattle.qk_core.specs.Definitions.{FunctionData, UserGenData}
 use Rattle.qk_core.specs.ExprData.{ExprData, exprs_of}
 use Rattle.qk_core.specs.GenData.{GenData, GensData, WeightedsData}
 use Rattle.qk_core.specs.GenData as gens
-use Rattle.qk_eval.specs.Meaning.{Evaluated, result, crash, and_then, meaning}
+use Rattle.qk_eval.specs.Meaning.{crash, meaning}
 use Rattle.qk_eval.specs.Parts.{number_of, small}
 use Rattle.qk_eval.proofs.UnitsLaws.{Within, Alike, wider, both_alike, if_alike, crash_alike, meaning_within, all_within}
-use Rattle.qk_gen.specs.Drawing.{chosen, length_of, size_of, place, up_to, gens_count, total_weight, Draws, elements, vector, Calls, one_expr, draws, draws_at, draws_reached, draws_each, draws_body, body_of, calls_within, drawing_call, drawing, drawn}
+use Rattle.qk_gen.specs.Drawing.{length_of, size_of, place, up_to, gens_count, total_weight, Draws, elements, vector, Calls, one_expr, draws, draws_at, draws_reached, draws_each, draws_body, body_of, calls_within, drawing_call, drawing, drawn}
 use Rattle.qk_splitmix.specs.SplitMix.{Generator, left, right}
-use Rattle.qk_value.specs.Data.{Data, list, pair, made, end, datas_of}
+use Rattle.qk_value.specs.Data.{Data, list, pair, made, datas_of}
 use Rattle.qk_value.specs.Measures.{weight}
 
 meaning_alike : (functions : List FunctionData) (e : ExprData) (env : List Data) (u : ℕ) → Alike (meaning functions e env u) (meaning functions e env u) u

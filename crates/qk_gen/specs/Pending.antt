@@ -13,7 +13,6 @@ use Rattle.qk_gen.specs.declared.pending.Frame.{Frame}
 use Rattle.qk_gen.specs.declared.pending.Frame.TheVariants.{Second, Both, Body, Unbind, Items, Parts, Leave}
 use Rattle.qk_gen.specs.declared.pending.Control.{Control}
 use Rattle.qk_gen.specs.declared.pending.Control.TheVariants.{Draw, Enter, Return, Crash}
-use Rattle.qk_splitmix.specs.SplitMix.{Generator}
 use Rattle.qk_value.specs.Data.{Data, list, pair, made, datas_of}
 use Rattle.qk_value.specs.Measures.{weight}
 

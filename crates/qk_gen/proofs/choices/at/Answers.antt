@@ -1,4 +1,3 @@
-use Rattle.std.proofs.Common.{◌≡◌}
 use Rattle.qk_gen.proofs.ChoiceLaws.{draws_at_get}
 use Rattle.qk_gen.proofs.choices.at.Goals as goal
 

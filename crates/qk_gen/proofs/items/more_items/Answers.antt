@@ -1,4 +1,4 @@
-use Rattle.std.proofs.Common.{◌≡◌, refl}
+use Rattle.std.proofs.Common.{refl}
 use Rattle.std.proofs.lemmas.List.Sums.{fold_push}
 use Rattle.qk_core.specs.GenView.{view_gen}
 use Rattle.qk_gen.specs.Drawing.{Draws, drawing}

@@ -1,0 +1,42 @@
+-- The data that the parts of a check stand for.
+use Rattle.std.specs.Prelude.{ℕ, List, map, Option, Some, None, option_map, slice_get}
+use Rattle.qk_base.specs.Growing.{Growing}
+use Rattle.qk_value.specs.View.{view_type}
+use Rattle.qk_core.specs.ExprView.{view_case}
+use Rattle.qk_types.specs.Operators.{Form, empty_list, binding, matching, operator, Operator, choice, unary, binary, maker, function}
+use Rattle.qk_types.specs.Patterns.{Shape, Cases}
+use Rattle.qk_types.specs.Reserved.{Word}
+use Rattle.qk_types.specs.Scopes.{Scope, Found}
+use Rattle.qk_types.specs.declared.heads.Form.{Form as CodeForm}
+use Rattle.qk_types.specs.declared.heads.Form.TheVariants as forms
+use Rattle.qk_types.specs.declared.heads.Operator.{Operator as CodeOperator}
+use Rattle.qk_types.specs.declared.heads.Operator.TheVariants as operators
+use Rattle.qk_types.specs.declared.patterns.Shape.{Shape as CodeShape}
+use Rattle.qk_types.specs.declared.patterns.Cases.{Cases as CodeCases}
+
+abbrev pub words_in : List (Growing ℕ) → List Word
+words_in names = map (λ n. n.items) names
+
+-- the variable of that index
+abbrev pub found_at : Scope → Option ℕ → Option Found
+found_at s None = None
+found_at s (Some i) = option_map (λ v. record { index = i; ty = v.ty }) (slice_get s i)
+
+abbrev pub operator_in : CodeOperator → Operator
+operator_in operators.Choice = choice
+operator_in (operators.Unary op) = unary op
+operator_in (operators.Binary op) = binary op
+operator_in (operators.Maker k m) = maker k m
+operator_in (operators.Function f) = function f
+
+abbrev pub form_in : CodeForm → Form
+form_in forms.EmptyList = empty_list
+form_in forms.Binding = binding
+form_in forms.Matching = matching
+form_in (forms.Operator op) = operator (operator_in op)
+
+abbrev pub shape_in : CodeShape → Shape
+shape_in s = record { head = s.head.items; pattern = s.pattern; fields = map view_type s.fields.items }
+
+abbrev pub cases_in : CodeCases → Cases
+cases_in c = record { ty = option_map view_type c.ty; heads = words_in c.heads.items; cases = map view_case c.cases.items }
