@@ -4,9 +4,12 @@ pub mod CaseSteps
 pub mod Checks
 pub mod Clauses
 pub mod Drawing
+pub mod DrawingView
 pub mod Elaboration
 pub mod ExpressionSteps
 pub mod Expressions
+pub mod GenHeads
+pub mod GenSteps
 pub mod Generators
 pub mod HeadForms
 pub mod Headers

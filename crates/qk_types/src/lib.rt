@@ -2,8 +2,12 @@
 #![tactic(auto)]
 
 mod atoms;
+mod drawing;
+mod drawn_types;
 mod elaboration;
 mod expressions;
+mod gen_heads;
+mod gen_nodes;
 mod generators;
 mod heads;
 mod lists;
@@ -21,5 +25,6 @@ mod tables;
 mod tests;
 mod types_of;
 mod typing;
+mod weights;
 
 pub use elaboration::elaborate;
