@@ -31,14 +31,14 @@ module _ {A B C D : Type 0} (agree : A → B → Checked (Unit {0})) (made : A �
 
   tested : {V : Type 0} (s : A) (x y : Checked (Unit {0})) (names : Checked V) (body : A → V → Checked B)
       → (((x >> (y >> Ok s)) >>= λ s. (names >>= λ v. (body s v >>= λ b. (agree s b >> Ok (made s b))))) >>= next)
-        ≡ (x >> (y >> (names >>= λ v. (body s v >>= λ b. (agree s b >> next (made s b))))))
+      ≡ (x >> (y >> (names >>= λ v. (body s v >>= λ b. (agree s b >> next (made s b))))))
   tested s (Ok u) (Ok v) names body = named s names (body s)
   tested s (Ok u) (Err r) names body = refl
   tested s (Err r) y names body = refl
 
   shaped : {V : Type 0} (shape : Checked A) (x y : A → Checked (Unit {0})) (names : Checked V) (body : A → V → Checked B)
       → (((shape >>= λ s. (x s >> (y s >> Ok s))) >>= λ s. (names >>= λ v. (body s v >>= λ b. (agree s b >> Ok (made s b))))) >>= next)
-        ≡ (shape >>= λ s. (x s >> (y s >> (names >>= λ v. (body s v >>= λ b. (agree s b >> next (made s b)))))))
+      ≡ (shape >>= λ s. (x s >> (y s >> (names >>= λ v. (body s v >>= λ b. (agree s b >> next (made s b)))))))
   shaped (Ok s) x y names body = tested s (x s) (y s) names body
   shaped (Err r) x y names body = refl
 

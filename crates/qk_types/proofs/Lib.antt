@@ -16,3 +16,6 @@ pub mod NilForms
 pub mod Applying
 pub mod CaseLaws
 pub mod ExpressionForms
+pub mod DrawingLaws
+pub mod GeneratorForms
+pub mod RefusedFirst

@@ -7,9 +7,12 @@ pub mod Clauses
 pub mod ClausesView
 pub mod DraftView
 pub mod Drawing
+pub mod DrawingView
 pub mod Elaboration
 pub mod ExpressionSteps
 pub mod Expressions
+pub mod GenHeads
+pub mod GenSteps
 pub mod Generators
 pub mod HeadForms
 pub mod Headers

@@ -51,12 +51,7 @@ pub fn lone_name(
     }
 }
 
-fn variable(
-    alloc: Global,
-    place: Place,
-    variable: &Variable,
-    index: usize,
-) -> Result<Typed, Memory>
+fn variable(alloc: Global, place: Place, variable: &Variable, index: usize) -> Result<Typed, Memory>
     ensures { IfOk result (λ e. typed_in e ≡ typed place variable.now.ty (ExprData.variable index)) }
 {
     // So many variables have no room in memory.
@@ -104,12 +99,7 @@ fn truth(place: Place, value: bool) -> Typed
 }
 
 /// The empty list of items of the type after the head of a list.
-pub fn nil_at(
-    alloc: Global,
-    tables: &Tables,
-    place: Place,
-    parts: &[Tree],
-) -> Result<Typed, Fault>
+pub fn nil_at(alloc: Global, tables: &Tables, place: Place, parts: &[Tree]) -> Result<Typed, Fault>
     ensures ok { IfOk result (λ e. nil_of_trees (tables_in tables.now) place (parts_after (views parts.now)) ≡ Ok (typed_in e)) }
     ensures refused { IfErr result (λ e. IfRefusal e (λ r. nil_of_trees (tables_in tables.now) place (parts_after (views parts.now)) ≡ Err r)) }
 {

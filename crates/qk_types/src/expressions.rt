@@ -42,13 +42,7 @@ pub fn expression(
     match &tree.node {
         Node::Number(n) => Ok(number(tree.place, *n)),
         Node::Name(word) => {
-            lone_name(
-                alloc,
-                tables,
-                scope.as_slice(),
-                tree.place,
-                word.as_slice(),
-            )
+            lone_name(alloc, tables, scope.as_slice(), tree.place, word.as_slice())
         }
         Node::List(parts) => headed(alloc, tables, scope, tree.place, parts.as_slice()),
     }

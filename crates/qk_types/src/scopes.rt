@@ -39,12 +39,7 @@ fn later(before: Option<usize>, variable: &Variable, index: usize, name: &[u8]) 
 }
 
 /// The variables before, and one more.
-pub fn bind(
-    alloc: Global,
-    scope: &mut Seq<Variable>,
-    name: &[u8],
-    ty: &Ty,
-) -> Result<(), Memory>
+pub fn bind(alloc: Global, scope: &mut Seq<Variable>, name: &[u8], ty: &Ty) -> Result<(), Memory>
     ensures { OnOk result (scope.new.items ≡ bound scope.old.items name.now (view_type ty.now)) }
 {
     let name = copied(alloc, name)?;
@@ -87,12 +82,7 @@ pub fn variable_at(alloc: Global, before: &[Bytes], tree: &Tree) -> Result<Bytes
     }
 }
 
-fn new_variable(
-    alloc: Global,
-    before: &[Bytes],
-    place: Place,
-    word: &[u8],
-) -> Result<Bytes, Fault>
+fn new_variable(alloc: Global, before: &[Bytes], place: Place, word: &[u8]) -> Result<Bytes, Fault>
     ensures ok { IfOk result (λ w. new_variable_of (words_in before.now) place word.now ≡ Ok w.items) }
     ensures refused { IfErr result (λ e. IfRefusal e (λ r. new_variable_of (words_in before.now) place word.now ≡ Err r)) }
 {

@@ -16,7 +16,8 @@ use qk_core::{Op1, Op2};
 use qk_value::Ty;
 use std::alloc::Global;
 
-fn is_same(ty: &Ty, other: &Ty) -> bool
+/// Whether the types are the same.
+pub fn is_same(ty: &Ty, other: &Ty) -> bool
     ensures { result ≡ same_type (view_type ty.now) (view_type other.now) }
 {
     ty.equal(other)
@@ -31,6 +32,14 @@ pub fn has_type(ty: &Ty, part: &Typed) -> Result<(), Fault>
         return Err(refusal(WRONG_TYPE, part.place));
     }
     Ok(())
+}
+
+/// A part that is no number is at fault.
+pub fn is_number(part: &Typed) -> Result<(), Fault>
+    ensures ok { OnOk result (has_type_of int_type (typed_in part.now) ≡ Ok tt) }
+    ensures refused { IfErr result (λ e. IfRefusal e (λ r. has_type_of int_type (typed_in part.now) ≡ Err r)) }
+{
+    has_type(&Ty::Int, part)
 }
 
 /// The parts have these types, as far as there are both.

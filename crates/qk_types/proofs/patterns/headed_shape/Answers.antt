@@ -17,7 +17,7 @@ returns-then-variables-len-clause-refused c =
     let a = c.args in
     let fields = c.in_ok-shape.shape.now.fields.items in
     let other : nat_eq (count (views a.variables.now)) (length (map view_type fields)) ≡ false =
-        other_count a.variables.now _ (omega (arith, length-map fields view_type))
+    other_count a.variables.now _ (omega (arith, length-map fields view_type))
     in
     subst (λ e. IfRefusal e (λ r. headed_shape (names_in a.names.now) (map shape_in a.shapes.now) (cases_in a.before.now) a.place a.at a.word.now (views a.variables.now) ≡ Err r))
     (sym c.refusal.ensures)
@@ -28,10 +28,10 @@ returns-then-is_among-clause-refused c =
     let a = c.args in
     let fields = c.in_ok-shape.shape.now.fields.items in
     let same : nat_eq (count (views a.variables.now)) (length (map view_type fields)) ≡ true =
-        as_many a.variables.now _ (omega (arith, length-map fields view_type))
+    as_many a.variables.now _ (omega (arith, length-map fields view_type))
     in
     let among : list_any (bytes_eq a.word.now) (words_in a.before.now.heads.items) ≡ true =
-        sym (c.is_among.ensures ∙ ap (λ x. list_any (bytes_eq a.word.now) (words_in x)) c.as_slice.ensures) ∙ c.if-is_among.true
+    sym (c.is_among.ensures ∙ ap (λ x. list_any (bytes_eq a.word.now) (words_in x)) c.as_slice.ensures) ∙ c.if-is_among.true
     in
     subst (λ e. IfRefusal e (λ r. headed_shape (names_in a.names.now) (map shape_in a.shapes.now) (cases_in a.before.now) a.place a.at a.word.now (views a.variables.now) ≡ Err r))
     (sym c.refusal-then-is_among.ensures)
@@ -42,9 +42,9 @@ returns-clause-ok c =
     let a = c.args in
     let fields = c.in_ok-shape.shape.now.fields.items in
     let same : nat_eq (count (views a.variables.now)) (length (map view_type fields)) ≡ true =
-        as_many a.variables.now _ (omega (arith, length-map fields view_type))
+    as_many a.variables.now _ (omega (arith, length-map fields view_type))
     in
     let among : list_any (bytes_eq a.word.now) (words_in a.before.now.heads.items) ≡ false =
-        sym (c.is_among.ensures ∙ ap (λ x. list_any (bytes_eq a.word.now) (words_in x)) c.as_slice.ensures) ∙ c.if-is_among.false
+    sym (c.is_among.ensures ∙ ap (λ x. list_any (bytes_eq a.word.now) (words_in x)) c.as_slice.ensures) ∙ c.if-is_among.false
     in
     after_ok _ _ _ _ c.in_ok-shape.ensures.ok (passes _ _ _ _ same ∙ passes _ _ _ _ (ap not among))

@@ -1,0 +1,39 @@
+-- The data that the parts of a check of a generator stand for.
+use Rattle.std.specs.Prelude.{List, map}
+use Rattle.qk_types.specs.Drawing.{OfValues, choose, elements, pure, call, OfDraws, list, pair, one_of, made, Sized, vector, resize, GenForm, values, draws, sized, frequency, bind, Part}
+use Rattle.qk_types.specs.TablesView.{drawn_in}
+use Rattle.qk_types.specs.declared.gen_heads.GenForm.{GenForm as CodeForm}
+use Rattle.qk_types.specs.declared.gen_heads.GenForm.TheVariants as forms
+use Rattle.qk_types.specs.declared.gen_heads.OfValues.{OfValues as CodeValues}
+use Rattle.qk_types.specs.declared.gen_heads.OfValues.TheVariants as of_values
+use Rattle.qk_types.specs.declared.gen_heads.OfDraws.{OfDraws as CodeDraws}
+use Rattle.qk_types.specs.declared.gen_heads.OfDraws.TheVariants as of_draws
+use Rattle.qk_types.specs.declared.gen_heads.Sized.{Sized as CodeSized}
+use Rattle.qk_types.specs.declared.gen_heads.Sized.TheVariants as of_sizes
+use Rattle.qk_types.specs.declared.weights.Part.{Part as CodePart}
+
+abbrev pub values_in : CodeValues → OfValues
+values_in of_values.Choose = choose
+values_in of_values.Elements = elements
+values_in of_values.Pure = pure
+values_in (of_values.Call g) = call g
+
+abbrev pub draws_in : CodeDraws → OfDraws
+draws_in of_draws.List = list
+draws_in of_draws.Pair = pair
+draws_in of_draws.OneOf = one_of
+draws_in (of_draws.Made k m) = made k m
+
+abbrev pub sized_in : CodeSized → Sized
+sized_in of_sizes.Vector = vector
+sized_in of_sizes.Resize = resize
+
+abbrev pub gen_form_in : CodeForm → GenForm
+gen_form_in (forms.Values f) = values (values_in f)
+gen_form_in (forms.Draws f) = draws (draws_in f)
+gen_form_in (forms.Sized f) = sized (sized_in f)
+gen_form_in forms.Frequency = frequency
+gen_form_in forms.Bind = bind
+
+abbrev pub part_in : CodePart → Part
+part_in part = record { weight = part.weight; body = drawn_in part.body }
