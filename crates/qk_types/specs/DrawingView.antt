@@ -1,5 +1,4 @@
 -- The data that the parts of a check of a generator stand for.
-use Rattle.std.specs.Prelude.{List, map}
 use Rattle.qk_types.specs.Drawing.{OfValues, choose, elements, pure, call, OfDraws, list, pair, one_of, made, Sized, vector, resize, GenForm, values, draws, sized, frequency, bind, Part}
 use Rattle.qk_types.specs.TablesView.{drawn_in}
 use Rattle.qk_types.specs.declared.gen_heads.GenForm.{GenForm as CodeForm}

@@ -1,7 +1,7 @@
 -- Steps of the judging of a generator, each after those before it.
-use Rattle.std.specs.Prelude.{ℕ, List, [], nat_lt, Ok}
+use Rattle.std.specs.Prelude.{ℕ, [], nat_lt, Ok}
 use Rattle.qk_base.specs.declared.place.Place.{Place}
-use Rattle.qk_syntax.specs.PlainTrees.{PlainTree, number, name, list, PlainTrees, end, more, count}
+use Rattle.qk_syntax.specs.PlainTrees.{PlainTree, number, list, PlainTrees, end, more, count}
 use Rattle.qk_core.specs.GenData.{GenData}
 use Rattle.qk_types.specs.Checks.{Checked, ◌>>=◌, ◌>>◌, refuse, check, place_of}
 use Rattle.qk_types.specs.Drawing.{Drawn, drawn, GenForm, values, draws, sized, frequency, bind, OfValues, OfDraws, Part, takes_values, takes_draws, of_values, of_draws, of_parts, weight_at}

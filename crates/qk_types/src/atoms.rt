@@ -24,6 +24,7 @@ use qk_syntax::Tree;
 use qk_value::Ty;
 use std::alloc::Global;
 
+/// A number as it is written.
 pub fn number(place: Place, n: i64) -> Typed
     ensures { typed_in result ≡ typed place int_type (ExprData.number n) }
 {

@@ -10,6 +10,7 @@ use qk_base::{Memory, Place};
 use qk_core::{Expr, Op1, Op2};
 use std::alloc::Global;
 
+/// A choice between two expressions.
 pub fn chosen(alloc: Global, condition: Expr, first: Expr, second: Expr) -> Result<Expr, Memory>
     ensures { IfOk result (λ e. view_expr e ≡ choice (view_expr condition) (view_expr first) (view_expr second)) }
 {
@@ -18,6 +19,7 @@ pub fn chosen(alloc: Global, condition: Expr, first: Expr, second: Expr) -> Resu
     Ok(Expr::If(condition, first, Box::new(alloc, second)?))
 }
 
+/// What a variable is bound to, and the body that sees it.
 pub fn bound(alloc: Global, place: Place, value: Expr, body: Typed) -> Result<Typed, Memory>
     ensures { IfOk result (λ e. typed_in e ≡ typed place (typed_in body).ty (binding (view_expr value) (typed_in body).expr)) }
 {
@@ -30,12 +32,14 @@ pub fn bound(alloc: Global, place: Place, value: Expr, body: Typed) -> Result<Ty
     })
 }
 
+/// An operator at its one part.
 pub fn of_one(alloc: Global, op: Op1, part: Expr) -> Result<Expr, Memory>
     ensures { IfOk result (λ e. view_expr e ≡ unary op (view_expr part)) }
 {
     Ok(Expr::Unary(op, Box::new(alloc, part)?))
 }
 
+/// An operator at its two parts.
 pub fn of_two(alloc: Global, op: Op2, first: Expr, second: Expr) -> Result<Expr, Memory>
     ensures { IfOk result (λ e. view_expr e ≡ binary op (view_expr first) (view_expr second)) }
 {

@@ -1,10 +1,10 @@
 use Rattle.std.proofs.Common.{rules, ◌≡◌, ◌∙◌, ◌+◌, sym, ap, subst, map, take, drop, Ok, Err, IfOk, IfErr, [], ◌∷◌, ◌++◌, refl}
-use Rattle.qk_syntax.specs.PlainTrees.{list, end, more}
+use Rattle.qk_syntax.specs.PlainTrees.{list}
 use Rattle.qk_syntax.specs.Refusals.{IfRefusal}
 use Rattle.qk_syntax.specs.View.{view, views}
 use Rattle.qk_value.specs.View.{view_type}
 use Rattle.qk_types.specs.Checks.{◌>>=◌}
-use Rattle.qk_types.specs.Drawing.{GenForm, values, draws, sized, frequency, bind, of_sized}
+use Rattle.qk_types.specs.Drawing.{values, draws, sized, frequency, bind, of_sized}
 use Rattle.qk_types.specs.DrawingView.{values_in, draws_in, sized_in, gen_form_in, part_in}
 use Rattle.qk_types.specs.GenSteps.{bind_body, part_at}
 use Rattle.qk_types.specs.Generators.{generator, generators, sized_at, bind_at, parts_at}

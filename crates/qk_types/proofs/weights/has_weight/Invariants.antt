@@ -1,5 +1,5 @@
 -- What is left decides as the whole does.
-use Rattle.std.proofs.Common.{◌≡◌, drop, map, nat_lt, sum_by}
+use Rattle.std.proofs.Common.{◌≡◌, drop, map, sum_by}
 use Rattle.qk_types.specs.DrawingView.{part_in}
 use Rattle.qk_types.proofs.weights.has_weight.Given as goal
 
