@@ -73,8 +73,6 @@ const PASSED: &str = "b: passed 100 tests, 0 discarded
 properties: 1, passed 1, failed 0, gave up 0
 ";
 
-const NOT_BUILT: &str = "refused 19 at 1:1\n";
-
 const NO_PROPERTY: &str = "refused 28 at 1:1\n";
 
 const USAGE: &str = "usage: quicker [options] FILE\n";
@@ -82,7 +80,7 @@ const USAGE: &str = "usage: quicker [options] FILE\n";
 const TWO_BLANKS: &str = "(prop  b (forall ((x (choose 0 0))) (check (< x 1))))";
 
 // Each file with its status and its text.
-const FILES: [(&str, u8, &str); 18] = [
+const FILES: [(&str, u8, &str); 15] = [
     (FAILING, 1, FAILING_REPORT),
     (
         "(prop b (forall ((x (choose 0 0))) (check (< x 1))))",
@@ -106,24 +104,9 @@ const FILES: [(&str, u8, &str); 18] = [
         PASSED,
     ),
     (
-        "(prop B (forall ((x (choose 0 0))) (check (< x 1))))",
-        3,
-        NOT_BUILT,
-    ),
-    (
-        "(prop bb (forall ((x (choose 0 0))) (check (< x 1))))",
-        3,
-        NOT_BUILT,
-    ),
-    (
-        "(prop b (forall ((y (choose 0 0))) (check (< y 1))))",
-        3,
-        NOT_BUILT,
-    ),
-    (
-        "(prop b (forall ((x (choose 0 0))) (check (< 1 x))))",
-        3,
-        NOT_BUILT,
+        "(prop Bb (forall ((y (choose 0 0))) (check (< y 1))))",
+        0,
+        "Bb: passed 100 tests, 0 discarded\nproperties: 1, passed 1, failed 0, gave up 0\n",
     ),
     ("", 3, NO_PROPERTY),
     ("(prop a))", 3, "refused 3 at 1:9\n"),
@@ -142,6 +125,126 @@ const FILES: [(&str, u8, &str); 18] = [
 #[test]
 fn files(rt: HostRuntime) -> Result<(), Fail> {
     for (file, status, text) in FILES {
+        answers(&rt, ["f"].as_slice(), file, &CALM, status, text)?;
+    }
+    Ok(())
+}
+
+// A property `a` that fails at its first attempt, for that cause, with that value.
+const FAILURE: &str = "a: failed after 1 test, 0 discarded
+cause: CAUSE
+attempt: 0, size 0
+shrinks: 0, tried 0
+VALUEpath: -
+replay: q1:0:0:0:0:100000:-
+properties: 1, passed 0, failed 1, gave up 0
+";
+
+// The functions and the generator of programs, a binder, what is checked, the cause and the value line.
+const FAILURES: [(&str, &str, &str); 4] = [
+    (
+        "(gen g () Int (g)) (prop a (forall ((x (g))) (check true)))",
+        "out of fuel while drawing",
+        "",
+    ),
+    (
+        "(fun spin ((n Int)) Int (spin n)) (prop a (forall ((x (choose 0 0))) (check (= (spin x) 0))))",
+        "out of fuel",
+        "  x = 0\n",
+    ),
+    (
+        "(fun grow ((xs (List Int))) (List Int) (grow (append xs xs))) (prop a (forall ((x (choose 0 0))) (check (= (length (grow (cons x (nil Int)))) 0))))",
+        "value too large",
+        "  x = 0\n",
+    ),
+    (
+        "(prop a (forall ((x (vector 3 (choose 3 3)))) (check (= 1 (div 1 (mod (length x) 3))))))",
+        "division by zero",
+        "  x = [3, 3, 3]\n",
+    ),
+];
+
+fn fails_first<R: Threads + Sync + Abort + AllocGlobal>(
+    rt: &R,
+    file: &str,
+    cause: &str,
+    value: &str,
+) -> Result<(), Fail> {
+    let with_cause = FAILURE.replace(rt.alloc(), "CAUSE", cause)?;
+    let text = with_cause.as_str().replace(rt.alloc(), "VALUE", value)?;
+    answers(rt, ["f"].as_slice(), file, &CALM, 1, text.as_str())
+}
+
+#[test]
+fn failures(rt: HostRuntime) -> Result<(), Fail> {
+    for (file, cause, value) in FAILURES {
+        fails_first(&rt, file, cause, value)?;
+    }
+    Ok(())
+}
+
+// Properties that pass or give up, and several in one file.
+const RUNS: [(&str, u8, &str); 5] = [
+    (
+        "(prop a (forall ((x int)) (check true)))",
+        0,
+        "a: passed 100 tests, 0 discarded\nproperties: 1, passed 1, failed 0, gave up 0\n",
+    ),
+    (
+        "(prop a (forall ((x int)) (given false) (check true)))",
+        1,
+        "a: gave up after 0 tests, 1000 discarded\nproperties: 1, passed 0, failed 0, gave up 1\n",
+    ),
+    (
+        "(prop a (forall ((x size)) (given (= (mod x 2) 0)) (check true)))",
+        0,
+        "a: passed 100 tests, 500 discarded\nproperties: 1, passed 1, failed 0, gave up 0\n",
+    ),
+    (SEVERAL, 1, SEVERAL_REPORT),
+    (
+        COUNTER,
+        0,
+        "a: passed 100 tests, 0 discarded\nproperties: 1, passed 1, failed 0, gave up 0\n",
+    ),
+];
+
+const SEVERAL: &str = "(prop a (forall ((x int)) (check (= x x))))
+(prop b (forall ((x size)) (check (< x 2))))
+(prop c (forall ((x (choose 7 7)) (y bool)) (given (= x 7)) (check (or y (not y)))))
+(prop d (forall ((x (pure (pair 1 true)))) (check (match x ((pair n b) (< n 1))))))";
+
+// A counter that counts as its model says.
+const COUNTER: &str = "(type Cmd (Inc))
+(gen g ((s Int)) Cmd (Inc))
+(fun pre ((s Int) (c Cmd)) Bool (< s 5))
+(fun next ((s Int) (c Cmd)) Int (+ s 1))
+(fun step ((r Int) (c Cmd)) Int (+ r 1))
+(fun post ((s Int) (c Cmd) (r Int)) Bool (= s r))
+(model m (command Cmd g) (abstract Int 0 pre next) (system Int 0 step post))
+(prop a (forall ((cs (commands m))) (check-runs cs)))";
+
+const SEVERAL_REPORT: &str = "a: passed 100 tests, 0 discarded
+b: failed after 3 tests, 0 discarded
+cause: false
+attempt: 2, size 2
+shrinks: 0, tried 0
+  x = 2
+path: -
+replay: q1:1:0:2:2:100000:-
+c: passed 100 tests, 0 discarded
+d: failed after 1 test, 0 discarded
+cause: false
+attempt: 0, size 0
+shrinks: 0, tried 0
+  x = (1, true)
+path: -
+replay: q1:3:0:0:0:100000:-
+properties: 4, passed 2, failed 2, gave up 0
+";
+
+#[test]
+fn runs(rt: HostRuntime) -> Result<(), Fail> {
+    for (file, status, text) in RUNS {
         answers(&rt, ["f"].as_slice(), file, &CALM, status, text)?;
     }
     Ok(())

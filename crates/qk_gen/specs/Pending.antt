@@ -76,3 +76,8 @@ module _ (functions : List FunctionData) (generators : List UserGenData) where
 abbrev pub control_of : Result Data Cause → Control
 control_of (Ok x) = Return x
 control_of (Err c) = Crash c
+
+-- the same where memory was not wanted
+abbrev pub settled_of : {E : Type 0} → Result (Result Data Cause) E → Result Control E
+settled_of (Ok r) = Ok (control_of r)
+settled_of (Err e) = Err e

@@ -29,10 +29,7 @@ pub(crate) fn go_on<'e>(
         ≡ after functions generators (resume functions generators frames.old.items) frame.entry env.old.items value u) }
 {
     match frame {
-        Frame::Second { second, g, size } => {
-            let next = wait(frames, Frame::Both(value), second, g, size)?;
-            Ok(next)
-        }
+        Frame::Second { second, g, size } => wait(frames, Frame::Both(value), second, g, size),
         Frame::Both(first) => {
             let given = Shared::pair(alloc, first, value)?;
             Ok(or_crash(given))
@@ -53,10 +50,7 @@ pub(crate) fn go_on<'e>(
             done,
             g,
             size,
-        } => {
-            let next = add_item(alloc, item, more, weight, done, value, g, size, frames)?;
-            Ok(next)
-        }
+        } => add_item(alloc, item, more, weight, done, value, g, size, frames),
         Frame::Parts {
             kind,
             maker,
@@ -64,10 +58,7 @@ pub(crate) fn go_on<'e>(
             done,
             g,
             size,
-        } => {
-            let next = add_part(alloc, kind, maker, rest, done, value, g, size, frames)?;
-            Ok(next)
-        }
+        } => add_part(alloc, kind, maker, rest, done, value, g, size, frames),
         Frame::Leave(old) => {
             *env = old;
             Ok(Control::Return(value))

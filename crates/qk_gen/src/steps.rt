@@ -8,7 +8,7 @@ ghost use Rattle.qk_core.specs.GenView.{view_gen, view_gens, view_weighteds};
 ghost use Rattle.qk_eval.specs.Meaning.{meaning, and_then, calling, mean_all, or_crash as or_crash_of};
 ghost use Rattle.qk_eval.specs.Parts.{number_of, small};
 ghost use Rattle.qk_gen.specs.Drawing.{chosen as chosen_by, drawing, drawing_call, draws_at, draws_body, draws_reached, gens_count, length_of, place as place_by, size_of, total_weight, up_to as up_to_by, vector as vector_of};
-ghost use Rattle.qk_gen.specs.Pending.{outcome, resume};
+ghost use Rattle.qk_gen.specs.Pending.{outcome, resume, settled_of};
 ghost use Rattle.qk_gen.specs.declared.pending.Frame.{Frame};
 ghost use Rattle.qk_splitmix.specs.SplitMix.{left as left_half, right as right_half};
 ghost use Rattle.qk_value.specs.Data.{Data, int, bool, pair as pair_of};
@@ -17,7 +17,7 @@ use crate::choices::{at, reached, total};
 use crate::expressions::{between, chosen, element, number_in, place, up_to, value_of, values_of};
 use crate::items::{length_in, more_parts, or_crash, vector, wait};
 use crate::pending::{Control, Frame};
-use qk_base::{Memory, Seq};
+use qk_base::{Cause, Memory, Seq};
 use qk_core::{Core, Expr, GenExpr, Weighted};
 use qk_eval::Shared;
 use qk_splitmix::Gen;
@@ -42,18 +42,11 @@ pub(crate) fn start<'e>(
         GenExpr::Int => Ok(Control::Return(any_number(g, size))),
         GenExpr::Bool => Ok(Control::Return(any_truth(g))),
         GenExpr::Size => Ok(Control::Return(own_size(size))),
-        GenExpr::Choose(first, second) => {
-            let given = between(alloc, core, first, second, g, env, left)?;
-            Ok(or_crash(given))
-        }
-        GenExpr::Pure(expr) => {
-            let given = value_of(alloc, core, expr, env, left)?;
-            Ok(or_crash(given))
-        }
-        GenExpr::Elements(exprs) => {
-            let given = element(alloc, core, exprs, g, env, left)?;
-            Ok(or_crash(given))
-        }
+        GenExpr::Choose(first, second) => settled(between(
+            alloc, core, first, second, g, env, left,
+        )),
+        GenExpr::Pure(expr) => settled(value_of(alloc, core, expr, env, left)),
+        GenExpr::Elements(exprs) => settled(element(alloc, core, exprs, g, env, left)),
         GenExpr::List(item) => {
             let next = list(alloc, item, g, size, frames)?;
             Ok(next)
@@ -62,33 +55,32 @@ pub(crate) fn start<'e>(
             let next = sized(alloc, core, length, item, g, size, env, frames, left)?;
             Ok(next)
         }
-        GenExpr::Pair(first, second) => {
-            let next = pair(first, second, g, size, frames)?;
-            Ok(next)
-        }
+        GenExpr::Pair(first, second) => pair(first, second, g, size, frames),
         GenExpr::Bind(first, body) => {
             let next = bind(first, body, g, size, frames)?;
             Ok(next)
         }
         GenExpr::OneOf(generators) => Ok(one_of(generators, g, size)),
-        GenExpr::Frequency(parts) => {
-            let next = frequency(parts.as_slice(), g, size)?;
-            Ok(next)
-        }
-        GenExpr::Resize(expr, generator) => {
-            let next = resize(alloc, core, expr, generator, g, env, left)?;
-            Ok(next)
-        }
+        GenExpr::Frequency(parts) => frequency(parts.as_slice(), g, size),
+        GenExpr::Resize(expr, generator) => resize(alloc, core, expr, generator, g, env, left),
         GenExpr::Make { kind, maker, parts } => {
-            let done = Vec::new(alloc);
-            let parts = parts.as_slice();
-            let next = more_parts(alloc, *kind, *maker, parts, done, g, size, frames)?;
-            Ok(next)
+            let (kind, maker, done) = (*kind, *maker, Vec::new(alloc));
+            more_parts(alloc, kind, maker, parts.as_slice(), done, g, size, frames)
         }
         GenExpr::Call { generator, args } => {
-            let next = call(alloc, core, *generator, args.as_slice(), g, size, env, left)?;
-            Ok(next)
+            let args = args.as_slice();
+            call(alloc, core, *generator, args, g, size, env, left)
         }
+    }
+}
+
+// A value to go on with, or a crash, where memory was not wanted.
+fn settled<'e>(given: Result<Result<Shared, Cause>, Memory>) -> Result<Control<'e>, Memory>
+    ensures { result ≡ settled_of given }
+{
+    match given {
+        Ok(given) => Ok(or_crash(given)),
+        Err(wanted) => Err(wanted),
     }
 }
 

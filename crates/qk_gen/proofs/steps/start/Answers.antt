@@ -1,5 +1,5 @@
 use Rattle.std.proofs.Common.{refl}
-use Rattle.qk_gen.proofs.ViewLaws.{view_int, view_bool, view_size, view_list, view_vector, view_pair, view_bind}
+use Rattle.qk_gen.proofs.ViewLaws.{view_int, view_bool, view_size, view_list, view_vector, view_bind}
 use Rattle.qk_gen.proofs.steps.start.Goals as goal
 
 pub returns-in-Int : goal.returns-in-Int
@@ -15,11 +15,6 @@ pub returns-in_ok-next-in-List : goal.returns-in_ok-next-in-List
 returns-in_ok-next-in-List c =
     let begun = c.in_ok-next-in-List.ensures c.args.core.now.functions c.args.core.now.generators c.args.env.now.items c.args.left.now in
     rw (c.in-List.is, view_list c.in-List.item) (rw c.deref-in-List.ensures at begun)
-
-pub returns-in_ok-next-in-Pair : goal.returns-in_ok-next-in-Pair
-returns-in_ok-next-in-Pair c =
-    let begun = c.in_ok-next-in-Pair.ensures c.args.core.now.functions c.args.core.now.generators c.args.env.now.items c.args.left.now in
-    rw (c.in-Pair.is, view_pair c.in-Pair.first c.in-Pair.second) (rw (c.deref-in-Pair.ensures, c.deref-in-Pair-2.ensures) at begun)
 
 pub returns-in_ok-next-in-Bind : goal.returns-in_ok-next-in-Bind
 returns-in_ok-next-in-Bind c =
