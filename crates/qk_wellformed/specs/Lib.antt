@@ -1,0 +1,4 @@
+pub mod IsExpression
+pub mod IsType
+pub mod IsVariable
+pub mod OperatorTypes

@@ -1,0 +1,26 @@
+//! What holds of all trees.
+ghost use Rattle.std.specs.Prelude.{◌≡◌, List, Ok};
+ghost use Rattle.qk_core.specs.ExprData.{ExprData};
+ghost use Rattle.qk_syntax.specs.PlainTrees.{PlainTree};
+ghost use Rattle.qk_types.specs.Checks.{place_of};
+ghost use Rattle.qk_types.specs.Expressions.{expression};
+ghost use Rattle.qk_types.specs.Names.{Declared};
+ghost use Rattle.qk_types.specs.Operators.{Tables, Typed, typed};
+ghost use Rattle.qk_types.specs.Scopes.{Scope};
+ghost use Rattle.qk_types.specs.TypesOf.{type_at};
+ghost use Rattle.qk_value.specs.Types.{TypeData};
+ghost use Rattle.qk_wellformed.specs.IsExpression.{IsExpression};
+ghost use Rattle.qk_wellformed.specs.IsType.{IsType};
+
+/// A tree is judged to be a type exactly where it is that type.
+pub fn types_stand()
+    ensures judged { (names : List Declared) (tree : PlainTree) (t : TypeData) → IsType names tree t → type_at names tree ≡ Ok t }
+    ensures stands { (names : List Declared) (tree : PlainTree) (t : TypeData) → type_at names tree ≡ Ok t → IsType names tree t }
+{}
+
+/// A tree is judged to be an expression of a type exactly where it is that expression; it is one at most.
+pub fn expressions_stand()
+    ensures judged { (d : Tables) (s : Scope) (tree : PlainTree) (t : TypeData) (e : ExprData) → IsExpression d s tree t e → expression d s tree ≡ Ok (typed (place_of tree) t e) }
+    ensures stands { (d : Tables) (s : Scope) (tree : PlainTree) (r : Typed) → expression d s tree ≡ Ok r → IsExpression d s tree r.ty r.expr }
+    ensures one { (d : Tables) (s : Scope) (tree : PlainTree) (t u : TypeData) (e f : ExprData) → IsExpression d s tree t e → IsExpression d s tree u f → (t ≡ u) × (e ≡ f) }
+{}
