@@ -6,3 +6,6 @@ pub mod OperatorsStand
 pub mod NamesUsed
 pub mod ArmsStand
 pub mod ExpressionsStand
+pub mod DrawingStands
+pub mod PartsStand
+pub mod GeneratorsStand

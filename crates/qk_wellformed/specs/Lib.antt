@@ -1,4 +1,6 @@
+pub mod GeneratorTypes
 pub mod IsExpression
+pub mod IsGenerator
 pub mod IsType
 pub mod IsVariable
 pub mod OperatorTypes

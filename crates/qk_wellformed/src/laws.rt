@@ -1,15 +1,19 @@
 //! What holds of all trees.
 ghost use Rattle.std.specs.Prelude.{◌≡◌, List, Ok};
 ghost use Rattle.qk_core.specs.ExprData.{ExprData};
+ghost use Rattle.qk_core.specs.GenData.{GenData};
 ghost use Rattle.qk_syntax.specs.PlainTrees.{PlainTree};
 ghost use Rattle.qk_types.specs.Checks.{place_of};
+ghost use Rattle.qk_types.specs.Drawing.{Drawn, drawn};
 ghost use Rattle.qk_types.specs.Expressions.{expression};
+ghost use Rattle.qk_types.specs.Generators.{generator};
 ghost use Rattle.qk_types.specs.Names.{Declared};
 ghost use Rattle.qk_types.specs.Operators.{Tables, Typed, typed};
 ghost use Rattle.qk_types.specs.Scopes.{Scope};
 ghost use Rattle.qk_types.specs.TypesOf.{type_at};
 ghost use Rattle.qk_value.specs.Types.{TypeData};
 ghost use Rattle.qk_wellformed.specs.IsExpression.{IsExpression};
+ghost use Rattle.qk_wellformed.specs.IsGenerator.{IsGenerator};
 ghost use Rattle.qk_wellformed.specs.IsType.{IsType};
 
 /// A tree is judged to be a type exactly where it is that type.
@@ -23,4 +27,11 @@ pub fn expressions_stand()
     ensures judged { (d : Tables) (s : Scope) (tree : PlainTree) (t : TypeData) (e : ExprData) → IsExpression d s tree t e → expression d s tree ≡ Ok (typed (place_of tree) t e) }
     ensures stands { (d : Tables) (s : Scope) (tree : PlainTree) (r : Typed) → expression d s tree ≡ Ok r → IsExpression d s tree r.ty r.expr }
     ensures one { (d : Tables) (s : Scope) (tree : PlainTree) (t u : TypeData) (e f : ExprData) → IsExpression d s tree t e → IsExpression d s tree u f → (t ≡ u) × (e ≡ f) }
+{}
+
+/// A tree is judged to be a generator of values of a type exactly where it is that generator; it is one at most.
+pub fn generators_stand()
+    ensures judged { (d : Tables) (s : Scope) (tree : PlainTree) (t : TypeData) (g : GenData) → IsGenerator d s tree t g → generator d s tree ≡ Ok (drawn (place_of tree) t g) }
+    ensures stands { (d : Tables) (s : Scope) (tree : PlainTree) (r : Drawn) → generator d s tree ≡ Ok r → IsGenerator d s tree r.ty r.gen }
+    ensures one { (d : Tables) (s : Scope) (tree : PlainTree) (t u : TypeData) (g f : GenData) → IsGenerator d s tree t g → IsGenerator d s tree u f → (t ≡ u) × (g ≡ f) }
 {}
