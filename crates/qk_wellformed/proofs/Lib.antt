@@ -9,3 +9,4 @@ pub mod ExpressionsStand
 pub mod DrawingStands
 pub mod PartsStand
 pub mod GeneratorsStand
+pub mod NamesStand

@@ -15,16 +15,16 @@ use Rattle.qk_wellformed.specs.IsGenerator.{IsGenerator, AreWeighed}
 use Rattle.qk_wellformed.proofs.DrawingStands.{types_drawn, draws_agreeing, draws_agree_given, all_as, parts_same, drawn_same}
 use Rattle.qk_wellformed.proofs.Inversion.{ok_is, held, followed, passing, next_after}
 
-at_most : (m n : ℕ) → nat_le m n ≡ true → m ≤ n
+pub at_most : (m n : ℕ) → nat_le m n ≡ true → m ≤ n
 at_most m n h = grind (arith, nat_tests)
 
-most_given : (m n : ℕ) → m ≤ n → nat_le m n ≡ true
+pub most_given : (m n : ℕ) → m ≤ n → nat_le m n ≡ true
 most_given m n h = grind (arith, nat_tests)
 
-less : (m n : ℕ) → nat_lt m n ≡ true → m < n
+pub less : (m n : ℕ) → nat_lt m n ≡ true → m < n
 less m n h = grind (arith, nat_tests)
 
-less_given : (m n : ℕ) → m < n → nat_lt m n ≡ true
+pub less_given : (m n : ℕ) → m < n → nat_lt m n ≡ true
 less_given m n h = grind (arith, nat_tests)
 
 pub weight_stands : (q : Place) (n : ℤ) (k : ℕ) → weight_at q n ≡ Ok k → (n ≡ pos k) × (k ≤ 1000000)

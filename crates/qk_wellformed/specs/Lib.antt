@@ -1,3 +1,5 @@
+pub mod AreHeaders
+pub mod AreNames
 pub mod GeneratorTypes
 pub mod IsExpression
 pub mod IsGenerator

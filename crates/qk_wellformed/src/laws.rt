@@ -2,16 +2,17 @@
 ghost use Rattle.std.specs.Prelude.{◌≡◌, List, Ok};
 ghost use Rattle.qk_core.specs.ExprData.{ExprData};
 ghost use Rattle.qk_core.specs.GenData.{GenData};
-ghost use Rattle.qk_syntax.specs.PlainTrees.{PlainTree};
+ghost use Rattle.qk_syntax.specs.PlainTrees.{PlainTree, PlainTrees};
 ghost use Rattle.qk_types.specs.Checks.{place_of};
 ghost use Rattle.qk_types.specs.Drawing.{Drawn, drawn};
 ghost use Rattle.qk_types.specs.Expressions.{expression};
 ghost use Rattle.qk_types.specs.Generators.{generator};
-ghost use Rattle.qk_types.specs.Names.{Declared};
+ghost use Rattle.qk_types.specs.Names.{Declared, names_of};
 ghost use Rattle.qk_types.specs.Operators.{Tables, Typed, typed};
 ghost use Rattle.qk_types.specs.Scopes.{Scope};
 ghost use Rattle.qk_types.specs.TypesOf.{type_at};
 ghost use Rattle.qk_value.specs.Types.{TypeData};
+ghost use Rattle.qk_wellformed.specs.AreNames.{AreNames};
 ghost use Rattle.qk_wellformed.specs.IsExpression.{IsExpression};
 ghost use Rattle.qk_wellformed.specs.IsGenerator.{IsGenerator};
 ghost use Rattle.qk_wellformed.specs.IsType.{IsType};
@@ -34,4 +35,10 @@ pub fn generators_stand()
     ensures judged { (d : Tables) (s : Scope) (tree : PlainTree) (t : TypeData) (g : GenData) → IsGenerator d s tree t g → generator d s tree ≡ Ok (drawn (place_of tree) t g) }
     ensures stands { (d : Tables) (s : Scope) (tree : PlainTree) (r : Drawn) → generator d s tree ≡ Ok r → IsGenerator d s tree r.ty r.gen }
     ensures one { (d : Tables) (s : Scope) (tree : PlainTree) (t u : TypeData) (g f : GenData) → IsGenerator d s tree t g → IsGenerator d s tree u f → (t ≡ u) × (g ≡ f) }
+{}
+
+/// Items are judged to declare names exactly where they declare these.
+pub fn names_stand()
+    ensures judged { (trees : PlainTrees) (names : List Declared) → AreNames trees names → names_of trees ≡ Ok names }
+    ensures stands { (trees : PlainTrees) (names : List Declared) → names_of trees ≡ Ok names → AreNames trees names }
 {}
