@@ -10,3 +10,4 @@ pub mod DrawingStands
 pub mod PartsStand
 pub mod GeneratorsStand
 pub mod NamesStand
+pub mod HeadersStand

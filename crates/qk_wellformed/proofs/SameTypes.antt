@@ -7,7 +7,7 @@ use Rattle.qk_value.specs.Types.{TypeData, int_type, bool_type, list_type, pair_
 use Rattle.qk_types.specs.Operators.{Typed, typed, has_type, have_types, is_list}
 use Rattle.qk_wellformed.proofs.Inversion.{followed, holds, test_held, next_after}
 
-both : (a b : Bool) → (a && b) ≡ true → (a ≡ true) × (b ≡ true)
+pub both : (a b : Bool) → (a && b) ≡ true → (a ≡ true) × (b ≡ true)
 both true b h = (refl, h)
 both false b h = absurd (cc)
 
@@ -17,7 +17,7 @@ same_number k l h = grind (arith, nat_tests)
 number_itself : (k : ℕ) → nat_eq k k ≡ true
 number_itself k = grind (arith, nat_tests)
 
-both_hold : (a b : Bool) → a ≡ true → b ≡ true → (a && b) ≡ true
+pub both_hold : (a b : Bool) → a ≡ true → b ≡ true → (a && b) ≡ true
 both_hold a b h k = ap (λ x. x && b) h ∙ k
 
 pub same_is : (t u : TypeData) → same_type t u ≡ true → t ≡ u

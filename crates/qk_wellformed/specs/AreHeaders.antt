@@ -34,9 +34,9 @@ abbrev pub IsSignature : List Declared → PlainTrees → SignatureData → Type
 IsSignature names (more (list q params) (more u (more body end))) s = (count params ≤ 16) × AreParameters names [] params s.params × IsType names u s.result
 IsSignature names parts s = ⊥
 
--- a list of this head, then a type and, that counted, so many parts
+-- a list of this head, then a type, and then so many parts
 abbrev pub IsModelPart : List Declared → Word → ℕ → PlainTree → TypeData → Type 0
-IsModelPart names head n (list p (more (name q w) (more u us))) t = (bytes_eq w head ≡ true) × (count (more u us) ≡ n) × IsType names u t
+IsModelPart names head n (list p (more (name q w) (more u us))) t = (bytes_eq w head ≡ true) × (count us ≡ n) × IsType names u t
 IsModelPart names head n tree t = ⊥
 
 abbrev pub HasModelTypes : List Declared → PlainTrees → ModelTypesData → Type 0
@@ -48,3 +48,22 @@ HasModelTypes names parts m = ⊥
 abbrev pub IsForall : PlainTrees → Type 0
 IsForall (more (list p (more (name q w) (more (list r binders) clauses))) end) = (bytes_eq w (codes "forall") ≡ true) × (1 ≤ count binders) × (count binders ≤ 16)
 IsForall parts = ⊥
+
+-- what an item adds to the headers before it
+abbrev pub AddsHeader : List Declared → HeadersData → Word → Item → PlainTrees → HeadersData → Type 0
+AddsHeader names h w items.Kind parts after = (makers : List MakerData) × AreMakers names parts makers × (after ≡ record h { kinds = h.kinds ++ record { name = w; makers = makers } ∷ [] })
+AddsHeader names h w items.Function parts after = (s : SignatureData) × IsSignature names parts s × (after ≡ record h { functions = h.functions ++ s ∷ [] })
+AddsHeader names h w items.Generator parts after = (s : SignatureData) × IsSignature names parts s × (after ≡ record h { generators = h.generators ++ s ∷ [] })
+AddsHeader names h w items.Model parts after = (m : ModelTypesData) × HasModelTypes names parts m × (after ≡ record h { models = h.models ++ m ∷ [] })
+AddsHeader names h w items.Property parts after = IsForall parts × (after ≡ h)
+
+abbrev pub IsHeader : List Declared → HeadersData → PlainTree → HeadersData → Type 0
+IsHeader names h (list p (more (name q w) (more (name r x) parts))) after = (item : Item) × (item_of w ≡ Some item) × AddsHeader names h x item parts after
+IsHeader names h tree after = ⊥
+
+abbrev pub HeadersFrom : List Declared → HeadersData → PlainTrees → HeadersData → Type 0
+HeadersFrom names h end after = after ≡ h
+HeadersFrom names h (more item trees) after = (between : HeadersData) × IsHeader names h item between × HeadersFrom names between trees after
+
+abbrev pub AreHeaders : List Declared → PlainTrees → HeadersData → Type 0
+AreHeaders names trees headers = HeadersFrom names no_headers trees headers

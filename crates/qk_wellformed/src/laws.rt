@@ -7,11 +7,13 @@ ghost use Rattle.qk_types.specs.Checks.{place_of};
 ghost use Rattle.qk_types.specs.Drawing.{Drawn, drawn};
 ghost use Rattle.qk_types.specs.Expressions.{expression};
 ghost use Rattle.qk_types.specs.Generators.{generator};
+ghost use Rattle.qk_types.specs.Headers.{HeadersData, headers_of};
 ghost use Rattle.qk_types.specs.Names.{Declared, names_of};
 ghost use Rattle.qk_types.specs.Operators.{Tables, Typed, typed};
 ghost use Rattle.qk_types.specs.Scopes.{Scope};
 ghost use Rattle.qk_types.specs.TypesOf.{type_at};
 ghost use Rattle.qk_value.specs.Types.{TypeData};
+ghost use Rattle.qk_wellformed.specs.AreHeaders.{AreHeaders};
 ghost use Rattle.qk_wellformed.specs.AreNames.{AreNames};
 ghost use Rattle.qk_wellformed.specs.IsExpression.{IsExpression};
 ghost use Rattle.qk_wellformed.specs.IsGenerator.{IsGenerator};
@@ -41,4 +43,10 @@ pub fn generators_stand()
 pub fn names_stand()
     ensures judged { (trees : PlainTrees) (names : List Declared) → AreNames trees names → names_of trees ≡ Ok names }
     ensures stands { (trees : PlainTrees) (names : List Declared) → names_of trees ≡ Ok names → AreNames trees names }
+{}
+
+/// The headers of items are judged to say exactly what they say.
+pub fn headers_stand()
+    ensures judged { (names : List Declared) (trees : PlainTrees) (headers : HeadersData) → AreHeaders names trees headers → headers_of names trees ≡ Ok headers }
+    ensures stands { (names : List Declared) (trees : PlainTrees) (headers : HeadersData) → headers_of names trees ≡ Ok headers → AreHeaders names trees headers }
 {}

@@ -3,4 +3,4 @@
 
 mod laws;
 
-pub use laws::{expressions_stand, generators_stand, names_stand, types_stand};
+pub use laws::{expressions_stand, generators_stand, headers_stand, names_stand, types_stand};
