@@ -1,13 +1,13 @@
 -- The headers of items are judged to say what they say.
-use Rattle.std.specs.Prelude.{nat_le, nat_eq, codes, bytes_eq, ◌&&◌}
-use Rattle.std.proofs.Common.{◌≡◌, ◌∙◌, ℕ, ◌≤◌, Bool, true, false, List, [], ◌∷◌, ◌++◌, map, refl, sym, ap, subst, Option, Some, None, Ok, Err}
+use Rattle.std.specs.Prelude.{nat_le, nat_eq, codes, bytes_eq}
+use Rattle.std.proofs.Common.{◌≡◌, ◌∙◌, ℕ, true, List, [], ◌∷◌, ◌++◌, map, refl, sym, ap, subst, Option, Some, None, Ok}
 use Rattle.std.proofs.lemmas.List.{append_assoc, append-nil}
 use Rattle.qk_base.specs.declared.place.Place.{Place}
 use Rattle.qk_syntax.specs.PlainTrees.{PlainTree, number, name, list, PlainTrees, end, more, count}
-use Rattle.qk_value.specs.Kinds.{KindData, MakerData}
+use Rattle.qk_value.specs.Kinds.{MakerData}
 use Rattle.qk_value.specs.Types.{TypeData}
-use Rattle.qk_types.specs.Checks.{Checked, ◌>>=◌, ◌>>◌, check, refuse}
-use Rattle.qk_types.specs.Headers.{SignatureData, ModelTypesData, HeadersData, no_headers, named_maker, maker_at, makers_after, named_parameter, parameter_at, parameters_at, parameter_list, signature_at, model_part, model_types, forall_parts, forall_at, property_shape, item_header, header_at, headers_after, headers_of}
+use Rattle.qk_types.specs.Checks.{◌>>=◌, ◌>>◌, check, refuse}
+use Rattle.qk_types.specs.Headers.{SignatureData, ModelTypesData, HeadersData, named_maker, makers_after, named_parameter, parameters_at, parameter_list, signature_at, model_part, model_types, forall_parts, property_shape, item_header, header_at, headers_after}
 use Rattle.qk_types.specs.Names.{Declared, item_of}
 use Rattle.qk_types.specs.Reserved.{Word}
 use Rattle.qk_types.specs.Scopes.{Scope, bind, new_variable}
@@ -15,7 +15,7 @@ use Rattle.qk_wellformed.specs.IsType.{IsType}
 use Rattle.qk_types.specs.TypesOf.{type_at, types_after}
 use Rattle.qk_types.specs.declared.names.Item.{Item}
 use Rattle.qk_types.specs.declared.names.Item.TheVariants as items
-use Rattle.qk_wellformed.specs.AreHeaders.{AreTypes, AreMakers, AreParameters, IsSignature, IsModelPart, HasModelTypes, IsForall, AddsHeader, IsHeader, HeadersFrom, AreHeaders}
+use Rattle.qk_wellformed.specs.AreHeaders.{AreTypes, AreMakers, AreParameters, IsSignature, IsModelPart, HasModelTypes, IsForall, AddsHeader, IsHeader, HeadersFrom}
 use Rattle.qk_wellformed.specs.IsVariable.{MayBeBound}
 use Rattle.qk_wellformed.proofs.ArmsStand.{as_many, so_many}
 use Rattle.qk_wellformed.proofs.Inversion.{ok_is, bound, followed, held, test_held, holds, after, next_after, passing}

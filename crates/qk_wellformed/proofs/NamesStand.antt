@@ -1,11 +1,11 @@
 -- The items are judged to declare names exactly where they declare them.
 use Rattle.std.specs.Prelude.{nat_le, nat_lt}
-use Rattle.std.proofs.Common.{◌≡◌, ◌∙◌, ℕ, ◌+◌, ◌<◌, ◌≤◌, Bool, true, false, not, List, [], ◌∷◌, ◌++◌, refl, sym, ap, subst, Option, Some, None, Ok, Err}
+use Rattle.std.proofs.Common.{◌≡◌, ◌∙◌, ℕ, ◌+◌, ◌≤◌, false, not, List, [], refl, sym, ap, subst, Option, Some, None, Ok}
 use Rattle.qk_base.specs.declared.place.Place.{Place}
 use Rattle.qk_syntax.specs.Places.{start}
 use Rattle.qk_syntax.specs.PlainTrees.{PlainTree, number, name, list, PlainTrees, end, more, count}
-use Rattle.qk_types.specs.Checks.{Checked, ◌>>=◌, ◌>>◌, check, refuse}
-use Rattle.qk_types.specs.Names.{Declared, is_known, item_of, number_of, numbered, declare, named_maker, maker_name, maker_names, inner_names, declared_item, named_item, item_names, all_names, names_of}
+use Rattle.qk_types.specs.Checks.{◌>>◌, check}
+use Rattle.qk_types.specs.Names.{Declared, is_known, item_of, number_of, numbered, declare, named_maker, maker_names, inner_names, named_item, item_names, all_names, names_of}
 use Rattle.qk_types.specs.Reserved.{Word}
 use Rattle.qk_types.specs.declared.names.Item.{Item}
 use Rattle.qk_types.specs.declared.names.Item.TheVariants as items

@@ -1,7 +1,7 @@
 -- What the headers of the items of a program say.
-use Rattle.std.specs.Prelude.{◌≡◌, ℕ, ◌≤◌, true, List, [], ◌∷◌, ◌++◌, map, codes, bytes_eq, Option, Some, None}
-use Rattle.qk_syntax.specs.PlainTrees.{PlainTree, number, name, list, PlainTrees, end, more, count}
-use Rattle.qk_value.specs.Kinds.{KindData, MakerData}
+use Rattle.std.specs.Prelude.{◌≡◌, ℕ, ◌≤◌, true, List, [], ◌∷◌, ◌++◌, map, codes, bytes_eq, Some}
+use Rattle.qk_syntax.specs.PlainTrees.{PlainTree, name, list, PlainTrees, end, more, count}
+use Rattle.qk_value.specs.Kinds.{MakerData}
 use Rattle.qk_value.specs.Types.{TypeData}
 use Rattle.qk_types.specs.Headers.{SignatureData, ModelTypesData, HeadersData, no_headers}
 use Rattle.qk_types.specs.Names.{Declared, item_of}

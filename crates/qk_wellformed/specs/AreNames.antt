@@ -1,6 +1,6 @@
 -- Which names the items of a program declare.
-use Rattle.std.specs.Prelude.{◌≡◌, ℕ, ◌+◌, ◌<◌, ◌≤◌, false, List, [], ◌∷◌, ◌++◌, Option, Some, None}
-use Rattle.qk_syntax.specs.PlainTrees.{PlainTree, number, name, list, PlainTrees, end, more, count}
+use Rattle.std.specs.Prelude.{◌≡◌, ℕ, ◌+◌, ◌<◌, ◌≤◌, false, List, [], ◌∷◌, ◌++◌, Some}
+use Rattle.qk_syntax.specs.PlainTrees.{PlainTree, name, list, PlainTrees, end, more, count}
 use Rattle.qk_types.specs.Names.{Declared, is_known, item_of, number_of, numbered}
 use Rattle.qk_types.specs.Reserved.{Word}
 use Rattle.qk_types.specs.declared.names.Item.{Item}
