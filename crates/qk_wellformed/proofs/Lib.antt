@@ -1,0 +1,13 @@
+pub mod Inversion
+pub mod TypesStand
+pub mod SameTypes
+pub mod VariablesStand
+pub mod OperatorsStand
+pub mod NamesUsed
+pub mod ArmsStand
+pub mod ExpressionsStand
+pub mod DrawingStands
+pub mod PartsStand
+pub mod GeneratorsStand
+pub mod NamesStand
+pub mod HeadersStand
