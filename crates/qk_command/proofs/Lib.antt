@@ -1,3 +1,4 @@
 pub mod CommandSizes
+pub mod DrawingLaws
 pub mod Notes
 pub mod Stepping

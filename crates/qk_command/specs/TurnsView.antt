@@ -8,7 +8,9 @@ use Rattle.qk_eval.specs.Parts.{truth_of, small}
 use Rattle.qk_splitmix.specs.SplitMix.{Generator}
 use Rattle.qk_value.specs.Data.{Data, list, datas_of}
 use Rattle.qk_command.specs.Drawing.{DrawnValues, turns}
+use Rattle.qk_value.specs.View.{view_value}
 use Rattle.qk_command.specs.declared.drawing.Drawn.{Drawn}
+use Rattle.qk_command.specs.declared.drawing.DrawnAll.{DrawnAll}
 use Rattle.qk_command.specs.declared.turning.Turned.{Turned}
 use Rattle.qk_command.specs.declared.turning.Turned.TheVariants as turned
 
@@ -31,3 +33,6 @@ asked c m size n before s x g u =
 -- the values that were drawn, as plain data
 abbrev pub drawn_in : Drawn → DrawnValues
 drawn_in d = record { values = d.values.items; crash = d.crash }
+
+abbrev pub all_drawn_in : DrawnAll → DrawnValues
+all_drawn_in d = record { values = map view_value d.values.items; crash = d.crash }

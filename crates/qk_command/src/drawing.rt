@@ -1,28 +1,73 @@
 //! What is drawn for the binders of a property.
-ghost use Rattle.std.specs.Prelude.{◌≡◌, ◌≤◌, IfOk};
+ghost use Rattle.std.specs.Prelude.{◌≡◌, ◌≤◌, ◌↔◌, IfOk, None, length, map};
 ghost use Rattle.std.specs.Option.{option_copied};
 ghost use Rattle.qk_core.specs.PropertyView.{view_draw};
-ghost use Rattle.qk_eval.specs.Answers.{ended};
+ghost use Rattle.qk_eval.specs.Answers.{ended, AreSmall};
+ghost use Rattle.qk_value.specs.View.{view_value};
 ghost use Rattle.qk_command.specs.Drawing.{binder_draws, drawn_values, model_draws};
-ghost use Rattle.qk_command.specs.TurnsView.{drawn_in};
+ghost use Rattle.qk_command.specs.TurnsView.{drawn_in, all_drawn_in};
 
 use crate::checking::model_at;
 use crate::turning::draw_commands_shared;
-use qk_base::{Cause, Memory};
+use qk_base::{Cause, Memory, Seq};
 use qk_core::{Core, Draw, ModelDef, Property};
 use qk_eval::{Ending, Shared};
 use qk_gen::draw_shared;
 use qk_splitmix::Gen;
+use qk_value::Value;
 use std::alloc::Global;
 
 /// The values of the binders, or those before the binder whose drawing crashed, with the cause.
+#[derive(Drop)]
+pub struct DrawnAll {
+    pub values: Seq<Value>,
+    pub crash: Option<Cause>,
+}
+
+/// Draws the binders of a property in order, a generator being split off for each; the units of fuel run through all of them. What
+/// was drawn may be judged as it is.
+pub fn draw_all(
+    alloc: Global,
+    core: &Core,
+    property: &Property,
+    g: Gen,
+    size: u32,
+    fuel: u32,
+) -> Result<DrawnAll, Memory>
+    requires { size ≤ 1000 }
+    ensures drawn { IfOk result (λ all. all_drawn_in all ≡ drawn_values core.now property.now size g fuel) }
+    ensures whole { IfOk result (λ all. (all.crash ≡ None) ↔ (length all.values.items ≡ length property.now.binders)) }
+    ensures small { IfOk result (λ all. AreSmall (map view_value all.values.items)) }
+{
+    let drawn = draw_all_shared(alloc, core, property, g, size, fuel)?;
+    let values = plain(alloc, &drawn.values)?;
+    Ok(DrawnAll {
+        values,
+        crash: drawn.crash,
+    })
+}
+
+// The values, no longer shared.
+fn plain(alloc: Global, shared: &[Shared]) -> Result<Seq<Value>, Memory>
+    ensures same { IfOk result (λ values. map view_value values.items ≡ shared.now) }
+    ensures small { IfOk result (λ values. AreSmall (map view_value values.items)) }
+{
+    let mut values = Seq::make(alloc);
+    for value in shared {
+        value.is_small();
+        values.add(value.to_value(alloc)?)?;
+    }
+    Ok(values)
+}
+
+/// `DrawnAll` over shared values.
 #[derive(Drop)]
 pub struct Drawn {
     pub values: Vec<Shared>,
     pub crash: Option<Cause>,
 }
 
-/// Draws the binders of a property in order, a generator being split off for each; the units of fuel run through all of them.
+/// `draw_all` over shared values.
 pub fn draw_all_shared(
     alloc: Global,
     core: &Core,

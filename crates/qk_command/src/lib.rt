@@ -17,7 +17,9 @@ mod turning;
 
 pub use attempting::attempt;
 pub use command_lists::{Kept, Ran};
-pub use drawing::{Drawn, draw_all_shared};
+pub use drawing::{Drawn, DrawnAll, draw_all, draw_all_shared};
 pub use judging::{judge, judge_shared};
 pub use keeping::keeps;
+pub use qk_eval::Answer;
 pub use running::runs;
+pub use turning::draw_commands;

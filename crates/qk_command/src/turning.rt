@@ -1,6 +1,7 @@
 //! Lists of commands that are drawn.
-ghost use Rattle.std.specs.Prelude.{◌≡◌, ◌≤◌, ◌∷◌, [], ℕ, pos, IfOk};
-ghost use Rattle.qk_eval.specs.Answers.{ended};
+ghost use Rattle.std.specs.Prelude.{◌≡◌, ◌≤◌, ◌<◌, ◌∷◌, [], ℕ, pos, IfOk, Some, length, slice_get};
+ghost use Rattle.qk_core.specs.Definitions.{ModelData};
+ghost use Rattle.qk_eval.specs.Answers.{said, ended, IsSmallAnswer, LeavesWithin};
 ghost use Rattle.qk_eval.specs.Meaning.{and_then};
 ghost use Rattle.qk_gen.specs.Drawing.{chosen, drawn, length_of};
 ghost use Rattle.qk_splitmix.specs.SplitMix.{Generator};
@@ -11,7 +12,7 @@ use crate::arguments::{eval_closed, one, two};
 use crate::commands::Commands;
 use qk_base::{Cause, Memory};
 use qk_core::{Core, ModelDef};
-use qk_eval::{Ending, Shared, call_shared};
+use qk_eval::{Answer, Ending, Shared, answered, call_shared};
 use qk_gen::draw_user_shared;
 use qk_splitmix::{Gen, choose};
 use std::alloc::Global;
@@ -23,7 +24,29 @@ pub(crate) enum Turned {
     Crash(Cause),
 }
 
-/// A list of commands of a model: the left half of the generator chooses the number of turns, the right half draws them.
+/// A list of commands of a model: the left half of the generator chooses the number of turns, the right half draws them. In a turn a
+/// command is drawn for the state; where its precondition is true it is added to the list, and the next state is found, else the turn
+/// gives nothing. Each of the three calls costs a unit of fuel.
+pub fn draw_commands(
+    alloc: Global,
+    core: &Core,
+    model: u32,
+    g: Gen,
+    size: u32,
+    fuel: u32,
+) -> Result<Answer, Memory>
+    requires model { model < length core.now.models }
+    requires size { size ≤ 1000 }
+    ensures drawing { IfOk result (λ answer. (m : ModelData) → slice_get core.now.models model ≡ Some m → said answer ≡ drawing_commands core.now m size g fuel) }
+    ensures small { IfOk result (λ answer. IsSmallAnswer answer) }
+    ensures left { IfOk result (λ answer. LeavesWithin fuel answer) }
+{
+    let ending = draw_commands_shared(alloc, core, core.model(model), g, size, fuel)?;
+    let answer = answered(&ending, alloc)?;
+    Ok(answer)
+}
+
+/// `draw_commands` for the model itself, over shared values.
 pub(crate) fn draw_commands_shared(
     alloc: Global,
     core: &Core,
