@@ -13,6 +13,8 @@ mod marking;
 mod noting;
 mod running;
 mod step;
+#[cfg(test)]
+mod tests;
 mod turning;
 
 pub use attempting::attempt;
