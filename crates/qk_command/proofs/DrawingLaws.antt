@@ -1,5 +1,5 @@
 -- Where each binder was drawn, and that a list of commands leaves no more units than there were.
-use Rattle.std.proofs.Common.{◌≡◌, ◌∙◌, ◌↔◌, ℕ, zero, suc, ◌+◌, ◌≤◌, Bool, true, false, if◌then◌else◌, List, [], ◌∷◌, ◌++◌, length, length-append, None, Some, Result, Ok, Err, refl, sym, ap, arith, le_refl, le_trans}
+use Rattle.std.proofs.Common.{◌≡◌, ◌∙◌, ◌↔◌, ℕ, zero, suc, ◌+◌, ◌≤◌, Bool, true, false, if◌then◌else◌, List, [], ◌∷◌, ◌++◌, length, length-append, None, Result, Ok, Err, refl, sym, arith, le_refl, le_trans}
 use Rattle.qk_base.specs.declared.outcome.Cause.{Cause}
 use Rattle.qk_core.specs.Definitions.{ModelData}
 use Rattle.qk_core.specs.Program.{ProgramData}
@@ -9,7 +9,7 @@ use Rattle.qk_eval.specs.Answers.{AreSmall}
 use Rattle.qk_eval.specs.Meaning.{Evaluated, result, crash, and_then, or_crash, called, meaning}
 use Rattle.qk_eval.specs.Parts.{truth_of, small}
 use Rattle.qk_gen.proofs.UnitsLaws.{drawn_within}
-use Rattle.qk_gen.specs.Drawing.{drawn, chosen, length_of}
+use Rattle.qk_gen.specs.Drawing.{drawn}
 use Rattle.qk_splitmix.specs.SplitMix.{Generator, left, right}
 use Rattle.qk_value.specs.Data.{Data, list, datas_of}
 use Rattle.qk_value.specs.Measures.{IsSmall}

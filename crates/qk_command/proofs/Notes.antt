@@ -1,7 +1,6 @@
 -- What is collected of notes, one after another.
-use Rattle.std.proofs.Common.{◌≡◌, ◌∙◌, ℕ, Bool, true, false, List, [], ◌∷◌, ◌++◌, codes, map, refl, sym, ap, append_assoc, append-nil}
-use Rattle.qk_base.specs.Judged.{Marked}
-use Rattle.qk_command.specs.Marking.{Note, labelled, classified, entered, covered, label_texts, classes_of, entries_of, covers_of, after_commas, joined, cut, marked}
+use Rattle.std.proofs.Common.{◌≡◌, ◌∙◌, ℕ, Bool, true, List, [], ◌∷◌, ◌++◌, codes, map, refl, sym, ap, append_assoc, append-nil}
+use Rattle.qk_command.specs.Marking.{Note, labelled, classified, entered, covered, label_texts, classes_of, entries_of, covers_of, after_commas, joined}
 use Rattle.qk_command.specs.NotesView.{StandsFor, is_some_text, separator}
 use Rattle.qk_command.specs.declared.marking.Notes.{Notes}
 

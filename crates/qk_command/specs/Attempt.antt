@@ -1,5 +1,5 @@
 -- What an attempt comes to: values are drawn, and judged with all units anew.
-use Rattle.std.specs.Prelude.{ℕ, Option, Some, None}
+use Rattle.std.specs.Prelude.{ℕ, Some, None}
 use Rattle.qk_base.specs.Judged.{Judged}
 use Rattle.qk_base.specs.declared.outcome.Verdict.TheVariants.{Fail}
 use Rattle.qk_core.specs.Program.{ProgramData}

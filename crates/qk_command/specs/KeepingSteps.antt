@@ -1,15 +1,12 @@
 -- One command of a list, and what follows.
-use Rattle.std.specs.Prelude.{ℕ, ◌+◌, List, [], ◌∷◌, if◌then◌else◌}
+use Rattle.std.specs.Prelude.{ℕ, ◌+◌, List}
 use Rattle.qk_core.specs.Definitions.{FunctionData, ModelData}
-use Rattle.qk_value.specs.Data.{Data, Datas}
-use Rattle.qk_eval.specs.Meaning.{called}
-use Rattle.qk_eval.specs.Parts.{truth_of}
-use Rattle.qk_command.specs.CommandLists.{Kept, first_broken, keeping_crashed, kept_with, kept_from, Ran, broke, ran_with, ran_from}
+use Rattle.qk_value.specs.Data.{Datas}
+use Rattle.qk_command.specs.CommandLists.{Kept, first_broken, keeping_crashed, kept_from, Ran, broke, ran_from}
 use Rattle.qk_command.specs.declared.keeping.Passed.{Passed}
 use Rattle.qk_command.specs.declared.keeping.Passed.TheVariants as passed
 use Rattle.qk_command.specs.declared.running.Moved.{Moved}
 use Rattle.qk_command.specs.declared.running.Moved.TheVariants as moved
-use Rattle.qk_base.specs.declared.outcome.Cause.TheVariants.{Post}
 
 -- what follows a command that was asked for its precondition
 abbrev pub passed_then : List FunctionData → ModelData → ℕ → Datas → Passed → Kept

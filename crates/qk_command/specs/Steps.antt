@@ -1,5 +1,5 @@
 -- What a step of judging comes to: a result with the units left, or the end of the judging.
-use Rattle.std.specs.Prelude.{ℕ, List, Bool, true, false}
+use Rattle.std.specs.Prelude.{ℕ, true, false}
 use Rattle.qk_base.specs.declared.outcome.Cause.{Cause}
 use Rattle.qk_value.specs.Data.{Data}
 use Rattle.qk_eval.specs.Meaning.{Evaluated, result, crash}

@@ -1,9 +1,8 @@
 -- What follows a turn of drawing commands, and the data that drawn values stand for.
-use Rattle.std.specs.Prelude.{ℕ, List, [], ◌∷◌, ◌++◌, Option, Some, None, map, if◌then◌else◌}
-use Rattle.qk_base.specs.declared.outcome.Cause.{Cause}
+use Rattle.std.specs.Prelude.{ℕ, List, [], ◌∷◌, ◌++◌, map, if◌then◌else◌}
 use Rattle.qk_core.specs.Definitions.{ModelData}
 use Rattle.qk_core.specs.Program.{ProgramData}
-use Rattle.qk_eval.specs.Meaning.{Evaluated, result, crash, and_then, or_crash, called}
+use Rattle.qk_eval.specs.Meaning.{Evaluated, crash, and_then, or_crash, called}
 use Rattle.qk_eval.specs.Parts.{truth_of, small}
 use Rattle.qk_splitmix.specs.SplitMix.{Generator}
 use Rattle.qk_value.specs.Data.{Data, list, datas_of}

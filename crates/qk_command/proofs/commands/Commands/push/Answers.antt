@@ -1,8 +1,7 @@
-use Rattle.std.proofs.Common.{◌≡◌, ◌≤◌, ◌<◌, ◌∙◌, ◌+◌, ◌++◌, ◌∷◌, [], ℕ, List, Ok, Err, sym, subst}
+use Rattle.std.proofs.Common.{◌≡◌, ◌≤◌, ◌<◌, ◌++◌, ◌∷◌, [], ℕ, List, Ok, Err, subst}
 use Rattle.qk_base.specs.declared.outcome.Cause.TheVariants.{Weight, Depth}
 use Rattle.qk_eval.specs.Parts.{small}
 use Rattle.qk_value.specs.Data.{Data, list, datas_of}
-use Rattle.qk_value.specs.Measures.{weights, depths}
 use Rattle.qk_command.proofs.CommandSizes.{push_heavy, push_deep, push_small, pushed}
 use Rattle.qk_command.proofs.commands.Commands.push.Goals as goal
 
