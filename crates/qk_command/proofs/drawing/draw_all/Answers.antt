@@ -12,6 +12,6 @@ returns-clause-whole c =
     let all = whole c.args.core.now binders [] c.args.size c.args.g c.args.fuel in
     let crash : c.in_ok-drawn.drawn.crash ≡ d.crash = ap (λ (e : DrawnValues). e.crash) c.in_ok-drawn.ensures in
     let count : length c.in_ok-values.values.items ≡ length d.values =
-      sym (length-map c.in_ok-values.values.items view_value) ∙ ap length (c.in_ok-values.ensures.same ∙ c.deref.ensures.value) ∙ ap (λ (e : DrawnValues). length e.values) c.in_ok-drawn.ensures in
+    sym (length-map c.in_ok-values.values.items view_value) ∙ ap length (c.in_ok-values.ensures.same ∙ c.deref.ensures.value) ∙ ap (λ (e : DrawnValues). length e.values) c.in_ok-drawn.ensures in
     let start = zero-add (length binders) in
     ((λ none. count ∙ all.0 (sym crash ∙ none) ∙ start), (λ same. crash ∙ all.1 (sym count ∙ same ∙ sym start)))
