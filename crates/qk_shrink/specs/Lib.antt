@@ -1,0 +1,6 @@
+pub mod Blocks
+pub mod Candidates
+pub mod Halves
+pub mod Numbers
+pub mod Sought
+pub mod Tuples

@@ -1,0 +1,5 @@
+//! The candidates of values, found by their numbers.
+#![tactic(auto)]
+
+mod blocks;
+mod sought;
