@@ -18,3 +18,8 @@ map_sought f (Past k) = Past k
 abbrev pub or_past : {X : Type 0} → Sought X → (ℕ → Sought X) → Sought X
 or_past (Here x) go = Here x
 or_past (Past k) go = go k
+
+-- what holds of the member, if there is one
+abbrev pub IfHere : {X : Type 0} → Sought X → (X → Type 0) → Type 0
+IfHere (Here x) holds = holds x
+IfHere (Past k) holds = Unit {0}

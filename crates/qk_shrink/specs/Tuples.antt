@@ -17,7 +17,7 @@ answered (crash c) = []
 abbrev pub binder_candidates : ProgramData → ℕ → BinderData → Data → List Data
 binder_candidates core fuel b x =
     elim b.shrink [
-      Builtin ↦ value_candidates core.kinds b.ty x
+      | Builtin ↦ value_candidates core.kinds b.ty x
       | Function f ↦ answered (called core.functions f (x ∷ []) fuel)
       | Nothing ↦ []
     ]

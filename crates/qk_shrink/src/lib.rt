@@ -2,4 +2,14 @@
 #![tactic(auto)]
 
 mod blocks;
+mod copies;
+mod counting;
+mod fields;
+mod numbers;
+mod seeking;
 mod sought;
+mod spread;
+
+pub use counting::value_count;
+pub use seeking::value_candidate;
+pub use spread::Spread;
