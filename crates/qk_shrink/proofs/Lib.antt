@@ -1,1 +1,3 @@
+pub mod HalfLaws
+pub mod SoughtLaws
 mod Worked

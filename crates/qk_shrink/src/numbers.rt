@@ -56,7 +56,7 @@ fn seek_above(m: u64, k: u64) -> Sought<i64>
     ensures { result ≡ sought (map pos (distances m)) k }
 {
     match seek_distance(m, k) {
-        Sought::Here(distance) => Sought::Here(distance as i64),
+        Sought::Here(distance) => Sought::Here(positive(distance)),
         Sought::Past(left) => Sought::Past(left),
     }
 }
@@ -67,11 +67,26 @@ fn seek_below(m: u64, k: u64) -> Sought<i64>
     ensures { result ≡ sought (map (λ d. neg_ℤ (pos d)) (distances m)) k }
 {
     match seek_distance(m, k) {
-        Sought::Here(distance) => Sought::Here(-(distance as i64)),
+        Sought::Here(distance) => Sought::Here(negative(distance)),
         Sought::Past(left) => Sought::Past(left),
     }
 }
 
+fn positive(distance: u64) -> i64
+    requires { distance < 2 ^ 63 }
+    ensures { result ≡ pos distance }
+{
+    distance as i64
+}
+
+fn negative(distance: u64) -> i64
+    requires { distance < 2 ^ 63 }
+    ensures { result ≡ neg_ℤ (pos distance) }
+{
+    -(distance as i64)
+}
+
+// The distance from zero of candidate `k` of the number m or -m, its opposite aside.
 fn seek_distance(m: u64, k: u64) -> Sought<u64>
     ensures found { result ≡ sought (distances m) k }
     ensures nearer { IfHere result (λ d. d < m) }
