@@ -19,11 +19,14 @@ is_made k (list_type t) = false
 is_made k (pair_type t u) = false
 is_made k (made_type l) = nat_eq l k
 
+-- a part, where its field has the user type of that number
+abbrev pub own_part : ℕ → TypeData → Data → List Data
+own_part k t d = if is_made k t then d ∷ [] else []
+
 -- the parts whose field has the user type of that number, left to right
 abbrev pub own_parts : ℕ → List TypeData → Datas → List Data
-own_parts k [] ds = []
-own_parts k (t ∷ ts) end = []
-own_parts k (t ∷ ts) (more d ds) = if is_made k t then d ∷ own_parts k ts ds else own_parts k ts ds
+own_parts k (t ∷ ts) (more d ds) = own_part k t d ++ own_parts k ts ds
+own_parts k ts ds = []
 
 abbrev mutual
   -- a list: without each of its blocks, and then each item's candidates in its place. A pair: each part's in its place. A value of

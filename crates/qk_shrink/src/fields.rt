@@ -2,7 +2,7 @@
 ghost use Rattle.std.specs.Prelude.{◌≡◌, ◌≤◌, length, map};
 ghost use Rattle.qk_value.specs.Kinds.{maker_of};
 ghost use Rattle.qk_value.specs.View.{view_type, view_value, view_values};
-ghost use Rattle.qk_shrink.specs.Candidates.{fields_of, is_made as is_made_of, own_parts};
+ghost use Rattle.qk_shrink.specs.Candidates.{fields_of, is_made as is_made_of, own_part, own_parts};
 ghost use Rattle.qk_shrink.specs.Sought.{map_sought, sought};
 
 use crate::sought::Sought;
@@ -38,11 +38,16 @@ pub(crate) fn count_own(kind: u32, types: &[Ty], parts: &[Value]) -> u64
     let shared = types.len().min(parts.len());
     let mut count = 0u64;
     for i in 0..shared {
-        if is_made(&types[i], kind) {
-            count += 1;
-        }
+        count += count_one(kind, &types[i], &parts[i]);
     }
     count
+}
+
+fn count_one(kind: u32, ty: &Ty, part: &Value) -> u64
+    ensures count { result ≡ length (own_part kind (view_type ty.now) (view_value part.now)) }
+    ensures bounded { result ≤ 1 }
+{
+    if is_made(ty, kind) { 1 } else { 0 }
 }
 
 /// Part `k` among those that have the user type of that number.
@@ -52,12 +57,22 @@ pub(crate) fn seek_own<'v>(kind: u32, types: &[Ty], parts: &'v [Value], k: u64) 
     let shared = types.len().min(parts.len());
     let mut left = k;
     for i in 0..shared {
-        if is_made(&types[i], kind) {
-            if left == 0 {
-                return Sought::Here(&parts[i]);
-            }
-            left -= 1;
+        match seek_one(kind, &types[i], &parts[i], left) {
+            Sought::Here(part) => return Sought::Here(part),
+            Sought::Past(rest) => left = rest,
         }
     }
     Sought::Past(left)
+}
+
+fn seek_one<'v>(kind: u32, ty: &Ty, part: &'v Value, k: u64) -> Sought<&'v Value>
+    ensures { map_sought (λ part. view_value part.now) result ≡ sought (own_part kind (view_type ty.now) (view_value part.now)) k }
+{
+    if !is_made(ty, kind) {
+        return Sought::Past(k);
+    }
+    if k == 0 {
+        return Sought::Here(part);
+    }
+    Sought::Past(k - 1)
 }

@@ -9,7 +9,7 @@ overflow_add-count c = omega (arith, few_halves 64 c.args.m c.ranges.m.fits, c.l
 pub loop-half-preserved : goal.loop-half-preserved
 loop-half-preserved c =
     let first : length (halves c.loop-half.half) ≡ length (halves (c.loop-half.half / 2)) + 1 =
-      rw (halves_more c.loop-half.half c.loop-half-test.true) (omega arith) in
+    rw (halves_more c.loop-half.half c.loop-half-test.true) (omega arith) in
     omega (arith, first, c.loop-half.invariant)
 
 pub returns-clause-bounded : goal.returns-clause-bounded

@@ -12,5 +12,5 @@ loop-half-preserved c =
     record {
       within = omega (arith, c.loop-half.invariant.within);
       left = one_less (λ half. c.args.m - half) c.loop-half.half (halves (c.loop-half.half / 2)) c.loop-half.left c.if-left-eq0.false
-        ∙ ap (λ hs. sought (map (λ half. c.args.m - half) hs) c.loop-half.left) (sym first) ∙ c.loop-half.invariant.left;
+          ∙ ap (λ hs. sought (map (λ half. c.args.m - half) hs) c.loop-half.left) (sym first) ∙ c.loop-half.invariant.left;
     }
