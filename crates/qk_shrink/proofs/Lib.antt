@@ -1,4 +1,6 @@
 pub mod BlockLaws
+pub mod CountLaws
+pub mod FormLaws
 pub mod HalfLaws
 pub mod PlaceLaws
 pub mod SoughtLaws

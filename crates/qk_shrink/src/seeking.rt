@@ -1,10 +1,11 @@
 //! The candidate of a value that has a number.
 ghost use Rattle.std.specs.Prelude.{◌≡◌, ◌<◌, ◌++◌, length, map, slice_get, Some, IfOk};
-ghost use Rattle.qk_value.specs.Data.{int, bool, list, pair, made, datas_of};
+ghost use Rattle.qk_value.specs.Data.{int, bool, list, pair, made, datas_of, listed_data};
 ghost use Rattle.qk_value.specs.Kinds.{maker_of};
 ghost use Rattle.qk_value.specs.View.{view_type, view_value, view_values};
 ghost use Rattle.qk_shrink.specs.Blocks.{removals};
 ghost use Rattle.qk_shrink.specs.Candidates.{fields_of, own_parts, value_candidates, items_in_place, parts_in_place};
+ghost use Rattle.qk_shrink.specs.Numbers.{number_candidates, truth_candidates};
 ghost use Rattle.qk_shrink.specs.Sought.{map_sought, sought};
 ghost use Rattle.qk_shrink.specs.declared.sought.Sought.TheVariants.{Here};
 
@@ -28,7 +29,7 @@ pub fn value_candidate(
     requires { k < length (value_candidates kinds.now (view_type ty.now) (view_value value.now)) }
     ensures { IfOk result (λ candidate. slice_get (value_candidates kinds.now (view_type ty.now) (view_value value.now)) k ≡ Some (view_value candidate)) }
 {
-    match seek(alloc, kinds, ty, value, k)? {
+    match seek(alloc, value, kinds, ty, k)? {
         Sought::Here(candidate) => Ok(candidate),
         Sought::Past(_) => unreachable!(),
     }
@@ -38,30 +39,30 @@ pub fn value_candidate(
 #[cycle(seek)]
 pub(crate) fn seek(
     alloc: Global,
+    value: &Value,
     kinds: &Kinds,
     ty: &Ty,
-    value: &Value,
     k: u64,
 ) -> Result<Sought<Value>, Memory>
     ensures { IfOk result (λ s. map_sought view_value s ≡ sought (value_candidates kinds.now (view_type ty.now) (view_value value.now)) k) }
 {
     match (ty, value) {
-        (Ty::Int, Value::Int(n)) => Ok(number(seek_number(*n, k))),
-        (Ty::Bool, Value::Bool(b)) => Ok(truth(seek_truth(*b, k))),
+        (Ty::Int, Value::Int(n)) => Ok(number(*n, k)),
+        (Ty::Bool, Value::Bool(b)) => Ok(truth(*b, k)),
         (Ty::List(item), Value::List(items)) => {
-            seek_list(alloc, kinds, item, items.as_slice(), k)
+            seek_list(alloc, items.as_slice(), kinds, item, k)
         }
         (Ty::Pair(first, second), Value::Pair(a, b)) => {
-            match seek(alloc, kinds, first, a, k)? {
+            match seek(alloc, a, kinds, first, k)? {
                 Sought::Here(c) => with_first(alloc, c, b),
                 Sought::Past(left) => {
-                    let c = seek(alloc, kinds, second, b, left)?;
+                    let c = seek(alloc, b, kinds, second, left)?;
                     with_second(alloc, a, c)
                 }
             }
         }
         (Ty::Made(_), Value::Made { kind, maker, parts }) => {
-            seek_made(alloc, kinds, *kind, *maker, parts.as_slice(), k)
+            seek_made(alloc, parts.as_slice(), kinds, *kind, *maker, k)
         }
         _ => Ok(Sought::Past(k)),
     }
@@ -71,12 +72,12 @@ pub(crate) fn seek(
 #[cycle(seek)]
 fn seek_list(
     alloc: Global,
+    items: &[Value],
     kinds: &Kinds,
     ty: &Ty,
-    items: &[Value],
     k: u64,
 ) -> Result<Sought<Value>, Memory>
-    ensures { IfOk result (λ s. map_sought view_value s ≡ sought (map list (map datas_of (removals (map view_value items.now)) ++ items_in_place kinds.now (view_type ty.now) (view_values items.now))) k) }
+    ensures { IfOk result (λ s. map_sought view_value s ≡ sought (map list (map datas_of (removals (listed_data (view_values items.now))) ++ items_in_place kinds.now (view_type ty.now) (view_values items.now))) k) }
 {
     match seek_block(items.len(), k) {
         Sought::Here(block) => {
@@ -84,7 +85,7 @@ fn seek_list(
             Ok(Sought::Here(Value::List(items)))
         }
         Sought::Past(left) => {
-            let items = seek_items(alloc, kinds, ty, items, left)?;
+            let items = seek_items(alloc, items, kinds, ty, left)?;
             Ok(list_of(items))
         }
     }
@@ -94,16 +95,16 @@ fn seek_list(
 #[cycle(seek)]
 fn seek_items(
     alloc: Global,
+    items: &[Value],
     kinds: &Kinds,
     ty: &Ty,
-    items: &[Value],
     k: u64,
 ) -> Result<Sought<Seq<Value>>, Memory>
     ensures { IfOk result (λ s. map_sought (λ all. view_values all.items) s ≡ sought (items_in_place kinds.now (view_type ty.now) (view_values items.now)) k) }
 {
     let mut left = k;
     for i in 0..items.len() {
-        match seek(alloc, kinds, ty, &items[i], left)? {
+        match seek(alloc, &items[i], kinds, ty, left)? {
             Sought::Here(item) => {
                 let items = put_in_place(alloc, items, i, item)?;
                 return Ok(Sought::Here(items));
@@ -118,10 +119,10 @@ fn seek_items(
 #[cycle(seek)]
 fn seek_made(
     alloc: Global,
+    parts: &[Value],
     kinds: &Kinds,
     kind: u32,
     maker: u32,
-    parts: &[Value],
     k: u64,
 ) -> Result<Sought<Value>, Memory>
     ensures { IfOk result (λ s. map_sought view_value s ≡ sought (own_parts kind (fields_of (maker_of kinds.now kind maker)) (view_values parts.now) ++ map (made kind maker) (parts_in_place kinds.now (fields_of (maker_of kinds.now kind maker)) (view_values parts.now))) k) }
@@ -130,7 +131,7 @@ fn seek_made(
     match seek_own(kind, types, parts, k) {
         Sought::Here(part) => Ok(Sought::Here(part.copy(alloc)?)),
         Sought::Past(left) => {
-            let parts = seek_parts(alloc, kinds, types, parts, left)?;
+            let parts = seek_parts(alloc, parts, kinds, types, left)?;
             Ok(made_of(kind, maker, parts))
         }
     }
@@ -140,9 +141,9 @@ fn seek_made(
 #[cycle(seek)]
 fn seek_parts(
     alloc: Global,
+    parts: &[Value],
     kinds: &Kinds,
     types: &[Ty],
-    parts: &[Value],
     k: u64,
 ) -> Result<Sought<Seq<Value>>, Memory>
     ensures { IfOk result (λ s. map_sought (λ all. view_values all.items) s ≡ sought (parts_in_place kinds.now (map view_type types.now) (view_values parts.now)) k) }
@@ -150,7 +151,7 @@ fn seek_parts(
     let shared = types.len().min(parts.len());
     let mut left = k;
     for i in 0..shared {
-        match seek(alloc, kinds, &types[i], &parts[i], left)? {
+        match seek(alloc, &parts[i], kinds, &types[i], left)? {
             Sought::Here(part) => {
                 let parts = put_in_place(alloc, parts, i, part)?;
                 return Ok(Sought::Here(parts));
@@ -161,19 +162,21 @@ fn seek_parts(
     Ok(Sought::Past(left))
 }
 
-fn number(n: Sought<i64>) -> Sought<Value>
-    ensures { map_sought view_value result ≡ map_sought int n }
+// A number's candidate.
+fn number(n: i64, k: u64) -> Sought<Value>
+    ensures { map_sought view_value result ≡ sought (map int (number_candidates n)) k }
 {
-    match n {
+    match seek_number(n, k) {
         Sought::Here(n) => Sought::Here(Value::Int(n)),
         Sought::Past(left) => Sought::Past(left),
     }
 }
 
-fn truth(b: Sought<bool>) -> Sought<Value>
-    ensures { map_sought view_value result ≡ map_sought bool b }
+// A truth value's candidate.
+fn truth(b: bool, k: u64) -> Sought<Value>
+    ensures { map_sought view_value result ≡ sought (map bool (truth_candidates b)) k }
 {
-    match b {
+    match seek_truth(b, k) {
         Sought::Here(b) => Sought::Here(Value::Bool(b)),
         Sought::Past(left) => Sought::Past(left),
     }

@@ -226,7 +226,7 @@ fn seek_way(
     ensures { IfOk result (λ s. map_sought view_value s ≡ sought (way_candidates kinds.now (view_way way.now) (view_value value.now)) k) }
 {
     match way {
-        Way::ByType(ty) => seek(alloc, kinds, ty, value, k),
+        Way::ByType(ty) => seek(alloc, value, kinds, ty, k),
         Way::Listed(items) => seek_listed(alloc, items.as_slice(), k),
     }
 }
