@@ -1,7 +1,7 @@
 -- Laws of the blocks of a list.
-use Rattle.std.proofs.Common.{◌≡◌, ◌∙◌, ℕ, zero, suc, ◌+◌, ◌*◌, ◌-◌, ◌/◌, ◌^◌, ◌≤◌, ◌<◌, List, [], ◌∷◌, ◌++◌, map, length, get_or, refl, sym, ap, arith}
+use Rattle.std.proofs.Common.{◌≡◌, ◌∙◌, ℕ, zero, suc, ◌+◌, ◌*◌, ◌-◌, ◌/◌, ◌^◌, ◌≤◌, ◌<◌, List, [], ◌∷◌, ◌++◌, map, take, drop, length, get_or, refl, sym, ap, arith}
 use Rattle.std.specs.List.{range_with_len, flat_map}
-use Rattle.std.proofs.lemmas.List.{length-append}
+use Rattle.std.proofs.lemmas.List.{length-append, take_all}
 use Rattle.std.proofs.lemmas.List.FromFn.{length-map-range_with_len, get_or-map-range_with_len}
 use Rattle.std.proofs.Math.Nat.{mul-le-mul_left, mul-div-le, div-le_self}
 use Rattle.qk_shrink.specs.Blocks.{blocks, blocks_of_size}
@@ -62,3 +62,8 @@ pub inside : (n size k : ℕ) → k < n / size → k * size + size ≤ n
 inside n size k h =
     let next : suc k ≤ n / size = omega (arith, h) in
     omega (arith, mul-le-mul_left size next, mul-div-le n size)
+
+pub whole_rest : {X : Type 0} (n : ℕ) (xs : List X) → take (length xs - n) (drop n xs) ≡ drop n xs
+whole_rest zero xs = take_all (length xs - 0) xs (omega arith)
+whole_rest (suc n) [] = take_all (0 - suc n) [] (omega arith)
+whole_rest (suc n) (x ∷ xs) = ap (λ m. take m (drop n xs)) (omega arith) ∙ whole_rest n xs

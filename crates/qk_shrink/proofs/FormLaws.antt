@@ -27,7 +27,7 @@ seen_pair x y = seen (types.Pair x y)
 valued : (o : Value) → view_value o ≡ view_step (map-Value Value Data view_value (out-Value o))
 valued o = fold_out-Value Data view_step o
 
-valued_int : (n : ℤ) → view_value (values.Int n) ≡ int n
+pub valued_int : (n : ℤ) → view_value (values.Int n) ≡ int n
 unfolding out-Value out
 valued_int n = valued (values.Int n)
 

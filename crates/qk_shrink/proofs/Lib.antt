@@ -3,5 +3,6 @@ pub mod CountLaws
 pub mod FormLaws
 pub mod HalfLaws
 pub mod PlaceLaws
+pub mod SeekLaws
 pub mod SoughtLaws
 mod Worked

@@ -77,6 +77,27 @@ pub replaced : (xs all : List Value) (i : ℕ) (y : Value) → map view_value al
     → view_values all ≡ joined (view_values (take i xs)) (more (view_value y) (view_values (drop (i + 1) xs)))
 replaced xs all i y h = ap datas_of h ∙ middle (map view_value (take i xs)) (view_value y) (map view_value (drop (i + 1) xs))
 
+-- the candidate of one value, put in its place, is found
+pub place_here : (xs all : List Value) (i : ℕ) (x c : Value) (firsts : List Data) (others whole : List Datas) (k : ℕ) (s : Sought Value)
+    → map view_value all ≡ map view_value (take i xs) ++ view_value c ∷ map view_value (drop (i + 1) xs) → s ≡ Here c → map_sought view_value s ≡ sought firsts k
+    → whole ≡ placed more (view_value x) (view_values (drop (i + 1) xs)) firsts others → Here (view_values all) ≡ map_sought (joined (view_values (take i xs))) (sought whole k)
+place_here xs all i x c firsts others whole k s copied is found whole_is =
+    let before = joined (view_values (take i xs)) in
+    ap Here (replaced xs all i c copied)
+    ∙ here_in_place more before (view_value x) (view_values (drop (i + 1) xs)) firsts others k (view_value c) (ap (map_sought view_value) (sym is) ∙ found)
+    ∙ ap (λ l. map_sought before (sought l k)) (sym whole_is)
+
+-- past the candidates of one value the search goes on behind it
+pub place_past : (xs : List Value) (i : ℕ) (x : Value) (firsts : List Data) (others whole : List Datas) (k left : ℕ) (s : Sought Value)
+    → i < length xs → x ≡ get_or xs i x → s ≡ Past left → map_sought view_value s ≡ sought firsts k
+    → whole ≡ placed more (view_value x) (view_values (drop (i + 1) xs)) firsts others
+    → map_sought (joined (view_values (take (i + 1) xs))) (sought others left) ≡ map_sought (joined (view_values (take i xs))) (sought whole k)
+place_past xs i x firsts others whole k left s below at is found whole_is =
+    let before = joined (view_values (take i xs)) in
+    ap (λ f. map_sought f (sought others left)) (behind xs i x below at)
+    ∙ past_in_place more before (view_value x) (view_values (drop (i + 1) xs)) firsts others k left (ap (map_sought view_value) (sym is) ∙ found)
+    ∙ ap (λ l. map_sought before (sought l k)) (sym whole_is)
+
 pub weights_next : (xs : List Value) (i : ℕ) (x : Value) → i < length xs → x ≡ get_or xs i x → weights (view_values (drop i xs)) ≡ weight (view_value x) + weights (view_values (drop (i + 1) xs))
 weights_next xs i x h is = ap (λ vs. weights (view_values vs)) (next xs i x h is)
 

@@ -54,15 +54,20 @@ pub(crate) fn seek(
         }
         (Ty::Pair(first, second), Value::Pair(a, b)) => {
             match seek(alloc, a, kinds, first, k)? {
-                Sought::Here(c) => with_first(alloc, c, b),
+                Sought::Here(c) => {
+                    let pair = with_first(alloc, c, b)?;
+                    Ok(pair)
+                }
                 Sought::Past(left) => {
                     let c = seek(alloc, b, kinds, second, left)?;
-                    with_second(alloc, a, c)
+                    let pair = with_second(alloc, a, c)?;
+                    Ok(pair)
                 }
             }
         }
         (Ty::Made(_), Value::Made { kind, maker, parts }) => {
-            seek_made(alloc, parts.as_slice(), kinds, *kind, *maker, k)
+            let made = seek_made(alloc, parts.as_slice(), kinds, *kind, *maker, k)?;
+            Ok(made)
         }
         _ => Ok(Sought::Past(k)),
     }
@@ -82,7 +87,7 @@ fn seek_list(
     match seek_block(items.len(), k) {
         Sought::Here(block) => {
             let items = without_block(alloc, items, block)?;
-            Ok(Sought::Here(Value::List(items)))
+            Ok(list_of(Sought::Here(items)))
         }
         Sought::Past(left) => {
             let items = seek_items(alloc, items, kinds, ty, left)?;
