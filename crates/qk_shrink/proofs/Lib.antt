@@ -5,4 +5,5 @@ pub mod HalfLaws
 pub mod PlaceLaws
 pub mod SeekLaws
 pub mod SoughtLaws
+pub mod TurnLaws
 mod Worked

@@ -3,6 +3,7 @@ pub mod Candidates
 pub mod Halves
 pub mod Numbers
 pub mod Sought
+pub mod SpreadCode
 pub mod Spreads
 pub mod SpreadsView
 pub mod Tuples

@@ -2,6 +2,7 @@
 use Rattle.std.specs.Prelude.{ℕ, List, [], ◌∷◌, ◌++◌, map}
 use Rattle.qk_core.specs.Program.{ProgramData}
 use Rattle.qk_core.specs.Properties.{BinderData}
+use Rattle.qk_core.specs.declared.property.ShrinkBy.{ShrinkBy}
 use Rattle.qk_core.specs.declared.property.ShrinkBy.TheVariants.{Builtin, Function, Nothing}
 use Rattle.qk_value.specs.Data.{Data}
 use Rattle.qk_value.specs.Kinds.{KindData}
@@ -32,15 +33,12 @@ in_turn kinds ws xs = []
 abbrev pub spread_over : SpreadData → List Data → List (List Data)
 spread_over s xs = in_turn s.kinds s.ways xs
 
--- how the candidates of a binder's value come
-abbrev pub way_of : ProgramData → ℕ → BinderData → Data → WayData
-way_of core fuel b x =
-    elim b.shrink [
-      | Builtin ↦ by_type b.ty
-      | Function f ↦ listed (answered (called core.functions f (x ∷ []) fuel))
-      | Nothing ↦ listed []
-    ]
+-- how the candidates of a value come
+abbrev pub way_of : ProgramData → ℕ → TypeData → ShrinkBy → Data → WayData
+way_of core fuel t Builtin x = by_type t
+way_of core fuel t (Function f) x = listed (answered (called core.functions f (x ∷ []) fuel))
+way_of core fuel t Nothing x = listed []
 
 abbrev pub ways_of : ProgramData → List BinderData → List Data → ℕ → List WayData
-ways_of core (b ∷ bs) (x ∷ xs) fuel = way_of core fuel b x ∷ ways_of core bs xs fuel
+ways_of core (b ∷ bs) (x ∷ xs) fuel = way_of core fuel b.ty b.shrink x ∷ ways_of core bs xs fuel
 ways_of core bs xs fuel = []

@@ -9,6 +9,8 @@ mod numbers;
 mod seeking;
 mod sought;
 mod spread;
+#[cfg(test)]
+mod tests;
 
 pub use counting::value_count;
 pub use seeking::value_candidate;

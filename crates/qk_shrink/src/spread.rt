@@ -1,8 +1,9 @@
 //! The candidates of the values of a property's binders, by number.
 ghost use Rattle.std.specs.Prelude.{◌≡◌, ◌≤◌, ◌<◌, ◌^◌, List, [], ◌∷◌, length, map, slice_get, Some, IfOk};
 ghost use Rattle.qk_eval.specs.Meaning.{called};
-ghost use Rattle.qk_value.specs.View.{view_value};
-ghost use Rattle.qk_eval.specs.Answers.{AreSmall};
+ghost use Rattle.qk_value.specs.View.{view_value, view_values};
+ghost use Rattle.qk_eval.specs.Answers.{AreSmall, said};
+ghost use Rattle.qk_eval.specs.Parts.{items_of as items_of_data};
 ghost use Rattle.qk_shrink.specs.Spreads.{listed as listed_way, spread_over, in_turn, way_candidates, way_of, ways_of};
 ghost use Rattle.qk_shrink.specs.SpreadsView.{view_way};
 ghost use Rattle.qk_shrink.specs.Tuples.{answered, candidates};
@@ -41,10 +42,13 @@ pub struct Spread<'a> {
 
 impl<'a> Model for Spread<'a> {
     ghost use Rattle.std.specs.Prelude.{◌≤◌, ◌^◌, map};
+    ghost use Rattle.qk_shrink.specs.SpreadCode.{spread_code};
     ghost use Rattle.qk_shrink.specs.Spreads.{SpreadData};
     ghost use Rattle.qk_shrink.specs.SpreadsView.{view_way};
 
     ghost Value = { SpreadData };
+
+    ghost coded = { spread_code };
 
     ghost view = { λ s. record { kinds = s.kinds.now; ways = map view_way s.ways.items; count = s.count } };
 
@@ -133,7 +137,7 @@ fn way_for<'a>(
     fuel: u32,
 ) -> Result<Way<'a>, Memory>
     requires { AreSmall (view_value value.now ∷ []) }
-    ensures { IfOk result (λ way. view_way way ≡ way_of core.now fuel binder.now (view_value value.now)) }
+    ensures { IfOk result (λ way. view_way way ≡ way_of core.now fuel binder.now.ty binder.now.shrink (view_value value.now)) }
 {
     match binder.shrink {
         ShrinkBy::Builtin => Ok(Way::ByType(&binder.ty)),
@@ -155,12 +159,29 @@ fn listed<'a>(
 {
     let mut args = Seq::make(alloc);
     args.add(value.copy(alloc)?)?;
-    match call(alloc, core, function, &args, fuel)? {
-        Answer::Value {
-            value: Value::List(items),
-            left: _,
-        } => Ok(Way::Listed(items)),
-        _ => Ok(Way::Listed(Seq::make(alloc))),
+    let answer = call(alloc, core, function, &args, fuel)?;
+    Ok(Way::Listed(items_in(alloc, answer)))
+}
+
+// The items of a list that was answered.
+fn items_in(alloc: Global, answer: Answer) -> Seq<Value>
+    ensures { map view_value result.items ≡ answered (said answer) }
+{
+    match answer {
+        Answer::Value { value, left: _ } => items_of(alloc, value),
+        Answer::Crash(_) => Seq::make(alloc),
+    }
+}
+
+fn items_of(alloc: Global, value: Value) -> Seq<Value>
+    ensures { view_values result.items ≡ items_of_data (view_value value) }
+{
+    match value {
+        Value::List(items) => items,
+        Value::Int(_) => Seq::make(alloc),
+        Value::Bool(_) => Seq::make(alloc),
+        Value::Pair(_, _) => Seq::make(alloc),
+        Value::Made { .. } => Seq::make(alloc),
     }
 }
 
