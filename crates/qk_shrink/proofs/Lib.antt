@@ -2,8 +2,11 @@ pub mod BlockLaws
 pub mod CountLaws
 pub mod FormLaws
 pub mod HalfLaws
+pub mod MeaningSizes
 pub mod PlaceLaws
 pub mod SeekLaws
+pub mod SizeLaws
 pub mod SoughtLaws
+pub mod TupleLaws
 pub mod TurnLaws
 mod Worked

@@ -5,6 +5,7 @@ mod blocks;
 mod copies;
 mod counting;
 mod fields;
+mod laws;
 mod numbers;
 mod seeking;
 mod sought;
@@ -13,5 +14,6 @@ mod spread;
 mod tests;
 
 pub use counting::value_count;
+pub use laws::{candidates_are_no_larger, candidates_are_small};
 pub use seeking::value_candidate;
 pub use spread::Spread;
