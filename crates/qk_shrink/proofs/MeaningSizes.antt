@@ -145,7 +145,7 @@ mutual
   means_small calls k (binary op a b) env u h =
       found_then IsSmall IsSmall (mean calls a env u) _ (means_small calls k a env u h)
       (λ x v is. decided (decided_by op x) _ v
-        (λ v. found_then IsSmall IsSmall (mean calls b env v) _ (means_small calls k b env v h) (λ y w is. given (binary_of op x y) w (two_parts op x y))))
+      (λ v. found_then IsSmall IsSmall (mean calls b env v) _ (means_small calls k b env v h) (λ y w is. given (binary_of op x y) w (two_parts op x y))))
   means_small calls k (matching a cases) env u h =
       found_then IsSmall IsSmall (mean calls a env u) _ (means_small calls k a env u h) (λ x v is. case_small calls k cases x env v is h)
   means_small calls k (making l m parts) env u h =

@@ -79,19 +79,19 @@ mutual
   light kinds (list_type t) (list ds) =
       All-map (Within (list ds)) list (map datas_of (removals (listed_data ds)) ++ items_in_place kinds t ds)
       (each (Withins ds) (λ es. Within (list ds) (list es)) (λ es h. (omega (arith, h.0), omega (arith, h.1))) (map datas_of (removals (listed_data ds)) ++ items_in_place kinds t ds)
-        (All-append (Withins ds) (map datas_of (removals (listed_data ds))) (items_in_place kinds t ds) (light_removals ds) (light_items kinds t ds)))
+      (All-append (Withins ds) (map datas_of (removals (listed_data ds))) (items_in_place kinds t ds) (light_removals ds) (light_items kinds t ds)))
   light kinds (pair_type t u) (pair a b) =
       All-append (Within (pair a b)) (map (λ c. pair c b) (value_candidates kinds t a)) (map (pair a) (value_candidates kinds u b))
       (All-map (Within (pair a b)) (λ c. pair c b) (value_candidates kinds t a)
-        (each (Within a) (λ c. Within (pair a b) (pair c b)) (λ c h. (omega (arith, h.0), omega (arith, h.1))) (value_candidates kinds t a) (light kinds t a)))
+      (each (Within a) (λ c. Within (pair a b) (pair c b)) (λ c h. (omega (arith, h.0), omega (arith, h.1))) (value_candidates kinds t a) (light kinds t a)))
       (All-map (Within (pair a b)) (pair a) (value_candidates kinds u b)
-        (each (Within b) (λ c. Within (pair a b) (pair a c)) (λ c h. (omega (arith, h.0), omega (arith, h.1))) (value_candidates kinds u b) (light kinds u b)))
+      (each (Within b) (λ c. Within (pair a b) (pair a c)) (λ c h. (omega (arith, h.0), omega (arith, h.1))) (value_candidates kinds u b) (light kinds u b)))
   light kinds (made_type k) (made l m ds) =
       let fields = fields_of (maker_of kinds l m) in
       All-append (Within (made l m ds)) (own_parts l fields ds) (map (made l m) (parts_in_place kinds fields ds))
       (each (Inside ds) (Within (made l m ds)) (λ c h. (omega (arith, h.0), omega (arith, h.1))) (own_parts l fields ds) (light_own l fields ds))
       (All-map (Within (made l m ds)) (made l m) (parts_in_place kinds fields ds)
-        (each (Withins ds) (λ es. Within (made l m ds) (made l m es)) (λ es h. (omega (arith, h.0), omega (arith, h.1))) (parts_in_place kinds fields ds) (light_parts kinds fields ds)))
+      (each (Withins ds) (λ es. Within (made l m ds) (made l m es)) (λ es h. (omega (arith, h.0), omega (arith, h.1))) (parts_in_place kinds fields ds) (light_parts kinds fields ds)))
   light kinds t d = All-nil (Within d)
 
   light_items : (kinds : List KindData) (t : TypeData) (ds : Datas) → All (Withins ds) (items_in_place kinds t ds)
@@ -99,9 +99,9 @@ mutual
   light_items kinds t (more d ds) =
       All-append (Withins (more d ds)) (map (λ c. more c ds) (value_candidates kinds t d)) (map (more d) (items_in_place kinds t ds))
       (All-map (Withins (more d ds)) (λ c. more c ds) (value_candidates kinds t d)
-        (each (Within d) (λ c. Withins (more d ds) (more c ds)) (λ c h. (omega (arith, h.0), omega (arith, h.1))) (value_candidates kinds t d) (light kinds t d)))
+      (each (Within d) (λ c. Withins (more d ds) (more c ds)) (λ c h. (omega (arith, h.0), omega (arith, h.1))) (value_candidates kinds t d) (light kinds t d)))
       (All-map (Withins (more d ds)) (more d) (items_in_place kinds t ds)
-        (each (Withins ds) (λ es. Withins (more d ds) (more d es)) (λ es h. (omega (arith, h.0), omega (arith, h.1))) (items_in_place kinds t ds) (light_items kinds t ds)))
+      (each (Withins ds) (λ es. Withins (more d ds) (more d es)) (λ es h. (omega (arith, h.0), omega (arith, h.1))) (items_in_place kinds t ds) (light_items kinds t ds)))
 
   light_parts : (kinds : List KindData) (ts : List TypeData) (ds : Datas) → All (Withins ds) (parts_in_place kinds ts ds)
   light_parts kinds [] ds = All-nil (Withins ds)
@@ -109,6 +109,6 @@ mutual
   light_parts kinds (t ∷ ts) (more d ds) =
       All-append (Withins (more d ds)) (map (λ c. more c ds) (value_candidates kinds t d)) (map (more d) (parts_in_place kinds ts ds))
       (All-map (Withins (more d ds)) (λ c. more c ds) (value_candidates kinds t d)
-        (each (Within d) (λ c. Withins (more d ds) (more c ds)) (λ c h. (omega (arith, h.0), omega (arith, h.1))) (value_candidates kinds t d) (light kinds t d)))
+      (each (Within d) (λ c. Withins (more d ds) (more c ds)) (λ c h. (omega (arith, h.0), omega (arith, h.1))) (value_candidates kinds t d) (light kinds t d)))
       (All-map (Withins (more d ds)) (more d) (parts_in_place kinds ts ds)
-        (each (Withins ds) (λ es. Withins (more d ds) (more d es)) (λ es h. (omega (arith, h.0), omega (arith, h.1))) (parts_in_place kinds ts ds) (light_parts kinds ts ds)))
+      (each (Withins ds) (λ es. Withins (more d ds) (more d es)) (λ es h. (omega (arith, h.0), omega (arith, h.1))) (parts_in_place kinds ts ds) (light_parts kinds ts ds)))

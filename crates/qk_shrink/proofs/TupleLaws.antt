@@ -57,4 +57,4 @@ candidates_many core (b ∷ bs) (x ∷ xs) fuel =
     let others = candidates core bs xs fuel in
     All-append (AreMany (suc (length xs))) (map (λ y. y ∷ xs) firsts) (map (λ ys. x ∷ ys) others) (firsts_many xs firsts)
     (All-map (AreMany (suc (length xs))) (λ ys. x ∷ ys) others
-      (each (AreMany (length xs)) (λ ys. AreMany (suc (length xs)) (x ∷ ys)) (λ ys h. ap suc h) others (candidates_many core bs xs fuel)))
+    (each (AreMany (length xs)) (λ ys. AreMany (suc (length xs)) (x ∷ ys)) (λ ys h. ap suc h) others (candidates_many core bs xs fuel)))

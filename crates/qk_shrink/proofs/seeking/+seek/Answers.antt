@@ -55,7 +55,7 @@ seek-returns-in_ok-pair-in-Here t c =
     let firsts = value_candidates kinds (view_type p.first.value) (view_value p.a.value) in
     let seconds = value_candidates kinds (view_type p.second.value) (view_value p.b.value) in
     let found = ap (map_sought view_value) (sym c.in-Here.is) ∙ c.in_ok-c-in-Pair-Pair.ensures
-      ∙ (λ i. sought (value_candidates kinds (view_type (c.deref-in-Pair-Pair-2.ensures i)) (view_value (c.deref-in-Pair-Pair.ensures i))) k) in
+    ∙ (λ i. sought (value_candidates kinds (view_type (c.deref-in-Pair-Pair-2.ensures i)) (view_value (c.deref-in-Pair-Pair.ensures i))) k) in
     c.in_ok-pair-in-Here.ensures ∙ ap (λ b. Here (pair (view_value c.in-Here.c) (view_value b))) c.deref-in-Here.ensures
     ∙ pair_first (view_value p.a.value) (view_value p.b.value) firsts seconds k (view_value c.in-Here.c) found
     ∙ ap (λ l. sought l k) (sym (pair_form kinds c.args.ty.now c.args.value.now p.first p.second p.a p.b p.is-0 p.is-1))
@@ -68,9 +68,9 @@ seek-returns-in_ok-pair-in-Past t c =
     let firsts = value_candidates kinds (view_type p.first.value) (view_value p.a.value) in
     let seconds = value_candidates kinds (view_type p.second.value) (view_value p.b.value) in
     let past = ap (map_sought view_value) (sym c.in-Past.is) ∙ c.in_ok-c-in-Pair-Pair.ensures
-      ∙ (λ i. sought (value_candidates kinds (view_type (c.deref-in-Pair-Pair-2.ensures i)) (view_value (c.deref-in-Pair-Pair.ensures i))) k) in
+    ∙ (λ i. sought (value_candidates kinds (view_type (c.deref-in-Pair-Pair-2.ensures i)) (view_value (c.deref-in-Pair-Pair.ensures i))) k) in
     let second = c.in_ok-c-in-Past.ensures
-      ∙ (λ i. sought (value_candidates kinds (view_type (c.deref-in-Past-2.ensures i)) (view_value (c.deref-in-Past.ensures i))) c.in-Past.left) in
+    ∙ (λ i. sought (value_candidates kinds (view_type (c.deref-in-Past-2.ensures i)) (view_value (c.deref-in-Past.ensures i))) c.in-Past.left) in
     c.in_ok-pair-in-Past.ensures ∙ ap (λ a. map_sought (pair (view_value a)) (map_sought view_value c.in_ok-c-in-Past.c)) c.deref-in-Past-3.ensures
     ∙ pair_second (view_value p.a.value) (view_value p.b.value) firsts seconds k c.in-Past.left (map_sought view_value c.in_ok-c-in-Past.c) past second
     ∙ ap (λ l. sought l k) (sym (pair_form kinds c.args.ty.now c.args.value.now p.first p.second p.a p.b p.is-0 p.is-1))

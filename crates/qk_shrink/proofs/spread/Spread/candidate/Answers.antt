@@ -18,7 +18,7 @@ unreachable-requires c =
     let values = map view_value c.args.values.now.items in
     let k = c.args.k in
     let same = (λ i. sought (in_turn c.self.inside.kinds.now (map view_way (c.as_slice.ensures i)) (map view_value (c.as_slice-2.ensures i))) k)
-      ∙ ap (λ s. sought (spread_over s values) k) c.self.view_is in
+    ∙ ap (λ s. sought (spread_over s values) k) c.self.view_is in
     not_past (spread_over c.args.self.now values) k c.in-Past.field-0 c.requires (sym (c.in_ok-candidate.ensures ∙ same) ∙ ap seen c.in-Past.is)
 
 pub returns : goal.returns
@@ -26,5 +26,5 @@ returns c =
     let values = map view_value c.args.values.now.items in
     let k = c.args.k in
     let same = (λ i. sought (in_turn c.self.inside.kinds.now (map view_way (c.as_slice.ensures i)) (map view_value (c.as_slice-2.ensures i))) k)
-      ∙ ap (λ s. sought (spread_over s values) k) c.self.view_is in
+    ∙ ap (λ s. sought (spread_over s values) k) c.self.view_is in
     found (spread_over c.args.self.now values) k (map view_value c.in-Here.candidate.items) (sym (c.in_ok-candidate.ensures ∙ same) ∙ ap seen c.in-Here.is)

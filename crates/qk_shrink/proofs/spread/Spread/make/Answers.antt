@@ -17,6 +17,6 @@ returns-clause-count c =
     let core = c.args.core.now in
     let values = map view_value c.args.values.now.items in
     let ways = ap (map view_way) c.as_slice-3.ensures ∙ c.in_ok-ways.ensures
-      ∙ (λ i. ways_of core (c.as_slice.ensures i) (map view_value (c.as_slice-2.ensures i)) c.args.fuel) in
+    ∙ (λ i. ways_of core (c.as_slice.ensures i) (map view_value (c.as_slice-2.ensures i)) c.args.fuel) in
     c.in_ok-count.ensures.count ∙ (λ i. length (in_turn (c.kinds.ensures i) (ways i) (map view_value (c.as_slice-4.ensures i))))
     ∙ ap length (in_turn_are core c.args.binders.now.items values c.args.fuel)
