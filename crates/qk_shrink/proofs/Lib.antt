@@ -9,4 +9,5 @@ pub mod SizeLaws
 pub mod SoughtLaws
 pub mod TupleLaws
 pub mod TurnLaws
+pub mod TypedLaws
 mod Worked

@@ -39,7 +39,7 @@ light_without xs [] = All-nil (λ ys. Withins (datas_of xs) (datas_of ys))
 light_without xs (b ∷ bs) =
     All-cons (λ ys. Withins (datas_of xs) (datas_of ys)) (without xs b) (map (without xs) bs) (light_ends b.at (b.at + b.size) xs (omega arith)) (light_without xs bs)
 
-again : (ds : Datas) → datas_of (listed_data ds) ≡ ds
+pub again : (ds : Datas) → datas_of (listed_data ds) ≡ ds
 again end = refl
 again (more d ds) = ap (more d) (again ds)
 

@@ -24,10 +24,10 @@ pub(crate) fn count_blocks(items: usize) -> u64
     ensures bounded { result ≤ 20 * items }
 {
     let mut count = 0u64;
-    let mut size = items;
-    while size > 0 {
-        count += (items / size) as u64;
-        size /= 2;
+    let mut block = items;
+    while block > 0 {
+        count += (items / block) as u64;
+        block /= 2;
     }
     count
 }

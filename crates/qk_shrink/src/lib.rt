@@ -14,6 +14,6 @@ mod spread;
 mod tests;
 
 pub use counting::value_count;
-pub use laws::{candidates_are_no_larger, candidates_are_small};
+pub use laws::{candidates_are_no_larger, candidates_are_small, candidates_have_the_type};
 pub use seeking::value_candidate;
 pub use spread::Spread;

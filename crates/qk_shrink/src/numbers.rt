@@ -11,13 +11,12 @@ pub(crate) fn count_number(n: i64) -> u64
     ensures count { result ≡ length (number_candidates n) }
     ensures bounded { result ≤ 65 }
 {
-    if n >= 0 {
-        return count_halves(n as u64);
+    let halves = count_halves(n.unsigned_abs());
+    if n < 0 && n != i64::MIN {
+        halves + 1
+    } else {
+        halves
     }
-    if n == i64::MIN {
-        return count_halves(n.unsigned_abs());
-    }
-    count_halves(n.unsigned_abs()) + 1
 }
 
 // How often a number is halved until it is 0.

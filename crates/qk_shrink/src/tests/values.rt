@@ -1,4 +1,7 @@
 //! The candidates of one value.
+ghost use Rattle.std.specs.Prelude.{IsTrue};
+ghost use Rattle.qk_value.specs.Measures.{IsSmall};
+ghost use Rattle.qk_value.specs.View.{view_value};
 
 use crate::{value_candidate, value_count};
 use qk_base::{Bytes, Memory, Seq};
@@ -146,7 +149,9 @@ const WANTED: [(u8, &str); 14] = [
     (13, ""),
 ];
 
-fn is_small(value: &Value) -> bool {
+fn is_small(value: &Value) -> bool
+    ensures { IsTrue result → IsSmall (view_value value.now) }
+{
     value.weight() <= 65_536 && value.depth() <= 200
 }
 

@@ -4,10 +4,10 @@ use Rattle.qk_shrink.proofs.blocks.count_blocks.Goals as goal
 
 pub overflow_add-count : goal.overflow_add-count
 overflow_add-count c =
-    omega (arith, count_more c.args.items c.loop-size.size c.loop-size-test.true, few_blocks c.args.items c.args.items c.requires, c.loop-size.invariant, c.requires)
+    omega (arith, count_more c.args.items c.loop-block.block c.loop-block-test.true, few_blocks c.args.items c.args.items c.requires, c.loop-block.invariant, c.requires)
 
-pub loop-size-preserved : goal.loop-size-preserved
-loop-size-preserved c = omega (arith, count_more c.args.items c.loop-size.size c.loop-size-test.true, c.loop-size.invariant)
+pub loop-block-preserved : goal.loop-block-preserved
+loop-block-preserved c = omega (arith, count_more c.args.items c.loop-block.block c.loop-block-test.true, c.loop-block.invariant)
 
 pub returns-clause-bounded : goal.returns-clause-bounded
-returns-clause-bounded c = omega (arith, few_blocks c.args.items c.args.items c.requires, c.loop-size.invariant)
+returns-clause-bounded c = omega (arith, few_blocks c.args.items c.args.items c.requires, c.loop-block.invariant)

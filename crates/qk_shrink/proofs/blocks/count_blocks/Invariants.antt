@@ -4,8 +4,8 @@ use Rattle.qk_shrink.specs.Blocks.{blocks}
 use Rattle.qk_shrink.proofs.BlockLaws.{blocks_from}
 use Rattle.qk_shrink.proofs.blocks.count_blocks.Given as goal
 
-abbrev pub invariant-loop-size : goal.invariant-loop-size
-invariant-loop-size l = l.count + length (blocks_from l.items l.size) ≡ length (blocks l.items)
+abbrev pub invariant-loop-block : goal.invariant-loop-block
+invariant-loop-block l = l.count + length (blocks_from l.items l.block) ≡ length (blocks l.items)
 
-abbrev pub decreases-loop-size : goal.decreases-loop-size
-decreases-loop-size l = l.size
+abbrev pub decreases-loop-block : goal.decreases-loop-block
+decreases-loop-block l = l.block
