@@ -1,0 +1,30 @@
+use Rattle.std.proofs.Common.{◌≡◌, ◌∙◌, List, map, sym, ap}
+use Rattle.qk_base.specs.Growing.{Growing}
+use Rattle.qk_value.specs.Data.{Data}
+use Rattle.qk_value.specs.View.{view_value}
+use Rattle.qk_value.specs.declared.value.Value.{Value}
+use Rattle.qk_shrink.specs.Sought.{sought, map_sought}
+use Rattle.qk_shrink.specs.Spreads.{in_turn, spread_over}
+use Rattle.qk_shrink.specs.SpreadsView.{view_way}
+use Rattle.qk_shrink.specs.declared.sought.Sought.{Sought}
+use Rattle.qk_shrink.proofs.SoughtLaws.{found, not_past}
+use Rattle.qk_shrink.proofs.spread.Spread.candidate.Goals as goal
+
+abbrev seen : Sought (Growing Value) → Sought (List Data)
+seen s = map_sought (λ all. map view_value all.items) s
+
+pub unreachable-requires : goal.unreachable-requires
+unreachable-requires c =
+    let values = map view_value c.args.values.now.items in
+    let k = c.args.k in
+    let same = (λ i. sought (in_turn c.self.inside.kinds.now (map view_way (c.as_slice.ensures i)) (map view_value (c.as_slice-2.ensures i))) k)
+    ∙ ap (λ s. sought (spread_over s values) k) c.self.view_is in
+    not_past (spread_over c.args.self.now values) k c.in-Past.field-0 c.requires (sym (c.in_ok-candidate.ensures ∙ same) ∙ ap seen c.in-Past.is)
+
+pub returns : goal.returns
+returns c =
+    let values = map view_value c.args.values.now.items in
+    let k = c.args.k in
+    let same = (λ i. sought (in_turn c.self.inside.kinds.now (map view_way (c.as_slice.ensures i)) (map view_value (c.as_slice-2.ensures i))) k)
+    ∙ ap (λ s. sought (spread_over s values) k) c.self.view_is in
+    found (spread_over c.args.self.now values) k (map view_value c.in-Here.candidate.items) (sym (c.in_ok-candidate.ensures ∙ same) ∙ ap seen c.in-Here.is)
