@@ -2,13 +2,21 @@
 #![tactic(auto)]
 
 mod block;
+mod counted;
 mod failure;
+mod given;
 mod lines;
+mod names;
+mod tables;
 mod texts;
 mod token;
+mod told;
 mod value_lines;
 
 pub use block::{put_failed_block, put_gave_up_block, put_passed_block};
 pub use failure::Failure;
 pub use lines::put_last_line;
+pub use tables::Tables;
+pub use qk_schedule::Finish;
 pub use texts::{put, put_named};
+pub use told::Told;
