@@ -1,6 +1,6 @@
 -- The distinct texts of a list and of one text more.
-use Rattle.std.proofs.Common.{◌≡◌, ◌∙◌, ℕ, Bool, true, false, cond, not, ◌||◌, List, [], ◌∷◌, ◌++◌, filter, refl, sym, ap, subst, true≢false}
-use Rattle.std.proofs.lemmas.List.{append-nil}
+use Rattle.std.proofs.Common.{◌≡◌, ◌∙◌, ◌+◌, ◌<◌, ℕ, Bool, true, false, cond, not, ◌||◌, List, [], ◌∷◌, ◌++◌, filter, get_or, length, map, refl, sym, take, ap}
+use Rattle.std.proofs.lemmas.List.{append-nil, map-append, take_more}
 use Rattle.std.specs.List.{list_any}
 use Rattle.std.specs.Str.{bytes_eq}
 use Rattle.std.specs.Cmp.Lexicographic.{nat_list_eq_equiv}
@@ -25,8 +25,8 @@ without_end : (x t : Text) (ts : List Text) → without x (ts ++ t ∷ []) ≡ w
 without_end x t [] = refl
 without_end x t (d ∷ ds) = by (bytes_eq x d) (without_end x t ds)
   where
-    by : (b : Bool) → without x (ts ++ t ∷ []) ≡ without x ts ++ without x (t ∷ [])
-        → cond (not b) (d ∷ without x (ts ++ t ∷ [])) (without x (ts ++ t ∷ [])) ≡ cond (not b) (d ∷ without x ts) (without x ts) ++ without x (t ∷ [])
+    by : (b : Bool) → without x (ds ++ t ∷ []) ≡ without x ds ++ without x (t ∷ [])
+        → cond (not b) (d ∷ without x (ds ++ t ∷ [])) (without x (ds ++ t ∷ [])) ≡ cond (not b) (d ∷ without x ds) (without x ds) ++ without x (t ∷ [])
     by true h = h
     by false h = ap (λ us. d ∷ us) h
 
@@ -45,7 +45,7 @@ module _ (t x : Text) (ds : List Text) where
 
   ended : (b : Bool) → bytes_eq x t ≡ b → (a : Bool) → list_any (bytes_eq t) ds ≡ a → x ∷ without x (cond a ds (ds ++ t ∷ [])) ≡ ending (bytes_eq t x || list_any (bytes_eq t) (without x ds))
   ended true e true h = here e
-  ended true e false h = last true e ∙ ap (λ us. x ∷ us) append-nil ∙ here e
+  ended true e false h = last true e ∙ ap (λ us. x ∷ us) (append-nil (without x ds)) ∙ here e
   ended false e true h = absent e true h
   ended false e false h = last false e ∙ absent e false h
 
@@ -59,3 +59,14 @@ kept_same kept ts t e there = e ∙ sym (distinct_end t ts ∙ ap (λ b. cond b 
 
 pub kept_more : (kept ts : List Text) (t : Text) → kept ≡ distinct ts → list_any (bytes_eq t) kept ≡ false → kept ++ t ∷ [] ≡ distinct (ts ++ t ∷ [])
 kept_more kept ts t e absent = ap (λ us. us ++ t ∷ []) e ∙ sym (distinct_end t ts ∙ ap (λ b. cond b (distinct ts) (distinct ts ++ t ∷ [])) (ap (list_any (bytes_eq t)) (sym e) ∙ absent))
+
+-- one more item of a list that is read as texts
+module _ {X : Type 0} (f : X → Text) (xs : List X) (i : ℕ) (d : X) (kept : List Text) where
+  one_more : i < length xs → map f (take (i + 1) xs) ≡ map f (take i xs) ++ f (get_or xs i d) ∷ []
+  one_more within = ap (map f) (take_more xs i d within) ∙ map-append f (take i xs) (get_or xs i d ∷ [])
+
+  pub step_same : i < length xs → kept ≡ distinct (map f (take i xs)) → list_any (bytes_eq (f (get_or xs i d))) kept ≡ true → kept ≡ distinct (map f (take (i + 1) xs))
+  step_same within e there = kept_same kept (map f (take i xs)) (f (get_or xs i d)) e there ∙ ap distinct (sym (one_more within))
+
+  pub step_more : i < length xs → kept ≡ distinct (map f (take i xs)) → list_any (bytes_eq (f (get_or xs i d))) kept ≡ false → kept ++ f (get_or xs i d) ∷ [] ≡ distinct (map f (take (i + 1) xs))
+  step_more within e absent = kept_more kept (map f (take i xs)) (f (get_or xs i d)) e absent ∙ ap distinct (sym (one_more within))

@@ -1,5 +1,5 @@
 -- What tables count, and which outcomes they stand for.
-use Rattle.std.specs.Prelude.{◌≡◌, ℕ, ◌-◌, ◌^◌, Bool, false, ◌&&◌, ◌==◌, List, Option, length, min, unwrap_or}
+use Rattle.std.specs.Prelude.{◌≡◌, ℕ, ◌+◌, ◌-◌, ◌^◌, Bool, false, ◌&&◌, ◌==◌, List, Option, count_by, is_some, length, min, unwrap_or}
 use Rattle.std.specs.Str.{bytes_eq}
 use Rattle.indexmap.specs.IndexMap.{get_by}
 use Rattle.qk_base.specs.Judged.{Judged, Marked}
@@ -42,12 +42,29 @@ count_over p outcomes (entries name) = length (entries_of p name outcomes)
 count_over p outcomes (cover i) = covered i outcomes
 
 -- what the tables counted; a row whose count is 0 is no row
+abbrev pub entry_in : Tables → Key → Option ℕ
+entry_in tables key = get_by (λ k. key_eq key (key_in k)) tables.counts
+
 abbrev pub count_of : Tables → Key → ℕ
-count_of tables key = unwrap_or (get_by (λ k. key_eq key (key_in k)) tables.counts) 0
+count_of tables key = unwrap_or (entry_in tables key) 0
+
+abbrev pub has_row : Tables → Key → Bool
+has_row tables key = is_some (entry_in tables key)
 
 -- each count is that over the list, or 2^64 - 1 where that is greater
 abbrev pub StandsFor : Tables → List Judged → Type 0
 StandsFor tables outcomes = (key : Key) → count_of tables key ≡ min (count_over tables.property.now outcomes key) (2 ^ 64 - 1)
+
+-- how many of the keys are that one
+abbrev pub among : Key → List Key → ℕ
+among key keys = count_by (key_eq key) keys
+
+abbrev pub SameCounts : Tables → Tables → Type 0
+SameCounts old new = (key : Key) → count_of new key ≡ count_of old key
+
+-- each count rose by as many as there are of its key, up to 2^64 - 1
+abbrev pub Raises : Tables → List Key → Tables → Type 0
+Raises old keys new = (key : Key) (n : ℕ) → count_of old key ≡ min n (2 ^ 64 - 1) → count_of new key ≡ min (n + among key keys) (2 ^ 64 - 1)
 
 -- the marks have as many classes, entries and covers as the property has clauses of them
 pub record Fits (p : PropertyData) (m : Marked) : Type 0 where

@@ -1,8 +1,8 @@
 -- What the marks of one attempt give to the tables.
-use Rattle.std.specs.Prelude.{ℕ, ◌+◌, Bool, true, false, List, [], ◌∷◌, ◌++◌, count_by, map}
+use Rattle.std.specs.Prelude.{ℕ, ◌+◌, Bool, true, false, List, [], ◌∷◌, ◌++◌, map}
 use Rattle.qk_base.specs.Judged.{Marked}
 use Rattle.qk_core.specs.Properties.{PropertyData}
-use Rattle.qk_report.specs.Counted.{Key, label, class, entry, entries, cover, key_eq}
+use Rattle.qk_report.specs.Counted.{Key, label, class, entry, entries, cover}
 use Rattle.qk_report.specs.Tables.{Text, class_names, distinct, label_of, table_names, true_names}
 
 -- a text for each clause of a table, and that its table has one more
@@ -20,7 +20,3 @@ cover_keys i (false ∷ covers) = cover_keys (i + 1) covers
 abbrev pub keys_given : PropertyData → Marked → List Key
 keys_given p m =
     map label (label_of m.label) ++ map class (distinct (true_names (class_names p.marks) m.classes)) ++ entry_keys (table_names p.marks) m.entries ++ cover_keys 0 m.covers
-
--- how many of the keys are that one
-abbrev pub among : Key → List Key → ℕ
-among key keys = count_by (key_eq key) keys

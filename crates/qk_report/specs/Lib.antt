@@ -4,6 +4,7 @@ pub mod FailureView
 pub mod Given
 pub mod Lines
 pub mod PropertyBlock
+pub mod RowsView
 pub mod TableLines
 pub mod Tables
 pub mod Token

@@ -1,5 +1,5 @@
 -- The block of a property, with its tables and its work.
-use Rattle.std.specs.Prelude.{◌≡◌, ℕ, Bool, List, [], ◌++◌, codes, length, Option, Some, None}
+use Rattle.std.specs.Prelude.{ℕ, Bool, List, [], ◌++◌, Option, Some, None}
 use Rattle.qk_base.specs.Judged.{Judged}
 use Rattle.qk_base.specs.declared.outcome.Cause.{Cause}
 use Rattle.qk_core.specs.Properties.{PropertyData}
@@ -8,7 +8,7 @@ use Rattle.qk_schedule.specs.declared.finish.Finish.TheVariants as finish
 use Rattle.qk_value.specs.Data.{Data}
 use Rattle.qk_value.specs.Kinds.{KindData}
 use Rattle.qk_report.specs.Block.{FailureData, passed_block, gave_up_block, failed_block}
-use Rattle.qk_report.specs.Lines.{line, named}
+use Rattle.qk_report.specs.Lines.{work_line}
 use Rattle.qk_report.specs.TableLines.{tables_text}
 
 -- what is told of a property's run: how it ended, the attempts that passed and those that were discarded, the failure, and the work
@@ -40,10 +40,6 @@ failure_of t k size = record {
   seed = t.seed;
   fuel = t.fuel;
 }
-
--- windows begun, rounds of repair and stored trials
-abbrev pub work_line : ℕ × ℕ × ℕ → List ℕ
-work_line work = line (named (codes "work: windows ") work.0 ++ named (codes ", rounds ") work.1 ++ named (codes ", trials ") work.2)
 
 abbrev pub work_text : Option (ℕ × ℕ × ℕ) → List ℕ
 work_text None = []

@@ -6,15 +6,15 @@ ghost use Rattle.qk_report.specs.Counted.{IsTaken, StandsFor};
 
 use crate::counted::Counted;
 use indexmap::IndexMap;
-use qk_base::{Memory, Outcome, Tally};
+use qk_base::{Memory, Outcome, Tally, Verdict};
 use qk_core::Property;
 use std::alloc::Global;
 
 /// The counts of what the marks of a property said of the attempts that passed. A count stands still at 2^64 - 1.
 #[derive(Drop)]
 pub struct Tables<'p> {
-    property: &'p Property,
-    counts: IndexMap<Counted<'p>, u64>,
+    pub(crate) property: &'p Property,
+    pub(crate) counts: IndexMap<Counted<'p>, u64>,
 }
 
 impl<'p> Tables<'p> {
@@ -27,5 +27,30 @@ impl<'p> Tables<'p> {
             property,
             counts: IndexMap::new(alloc),
         })
+    }
+
+    /// The property for which the tables were made.
+    pub fn property(&self) -> &'p Property
+        ensures { result.now ≡ self.now.property.now }
+    {
+        self.property
+    }
+}
+
+impl<'p> Tally for Tables<'p> {
+    type Made = Property;
+
+    ghost stands_for = { StandsFor };
+
+    ghost takes = { λ tables. IsTaken tables.property.now };
+
+    ghost made = { λ tables. tables.property.now };
+
+    fn add(&mut self, alloc: Global, outcome: &Outcome) -> Result<(), Memory> {
+        match outcome.verdict {
+            Verdict::Pass => self.add_marks(alloc, &outcome.marks),
+            Verdict::Discard => Ok(()),
+            Verdict::Fail(_) => Ok(()),
+        }
     }
 }

@@ -1,5 +1,10 @@
 //! What is told of a property's run.
+ghost use Rattle.std.specs.Prelude.{◌≡◌};
+ghost use Rattle.qk_report.specs.FailureView.{failure_behind};
+ghost use Rattle.qk_report.specs.PropertyBlock.{failure_of};
+ghost use Rattle.qk_report.specs.ToldView.{told_in};
 
+use crate::failure::FailureRef;
 use qk_base::{Cause, Seq};
 use qk_schedule::Finish;
 use qk_value::Value;
@@ -22,4 +27,24 @@ pub struct Told {
     pub seed: u64,
     pub fuel: u32,
     pub work: Option<(u64, u64, u64)>,
+}
+
+impl Told {
+    /// The failure of that attempt at that size.
+    pub(crate) fn failure(&self, attempt: u64, size: u32) -> FailureRef<'_>
+        ensures { failure_behind result ≡ failure_of (told_in self.now) attempt size }
+    {
+        FailureRef {
+            attempt,
+            size,
+            cause: self.cause,
+            drawing: self.drawing,
+            values: self.values.as_slice(),
+            path: self.path.as_slice(),
+            tried: self.tried,
+            limit_met: self.limit_met,
+            seed: self.seed,
+            fuel: self.fuel,
+        }
+    }
 }
