@@ -1,2 +1,4 @@
 pub mod TextLaws
 mod Distinct
+mod Keys
+mod KeyCounts
