@@ -2,3 +2,5 @@ pub mod TextLaws
 mod Distinct
 mod Keys
 mod KeyCounts
+mod Stands
+mod CoverLaws

@@ -2,9 +2,10 @@
 ghost use Rattle.std.specs.Prelude.{◌≡◌, [], ◌∷◌, ◌++◌, IfOk, List, OnOk, map, replicate, take};
 ghost use Rattle.std.specs.List.{flat_map};
 ghost use Rattle.qk_base.specs.Judged.{Judged};
+ghost use Rattle.qk_report.specs.Counted.{StandsFor};
 ghost use Rattle.qk_report.specs.RowsView.{NoneStandsStill, row_behind, section_in};
 ghost use Rattle.qk_report.specs.TableLines.{cover_line, cover_lines, heading, is_missed as is_missed_by, missed_text as missed_said, more_line, percentage as percentage_of, right, row_line, section_lines, table, table_lines, tables_text, total_of};
-ghost use Rattle.qk_report.specs.Tables.{distinct as distinct_texts, table_names as names_of_tables, wanted_of as wanted_in};
+ghost use Rattle.qk_report.specs.Tables.{covered as times_covered, distinct as distinct_texts, table_names as names_of_tables, wanted_of as wanted_in};
 ghost use Rattle.qk_report.specs.ToldView.{IsFitting};
 ghost use Rattle.qk_report.specs.WantedView.{wanted_behind};
 
@@ -209,10 +210,18 @@ fn put_cover_lines(
 {
     let all = wanted_of(alloc, tables.property())?;
     for (index, wanted) in all.iter().enumerate() {
-        let count = tables.count_of(&Counted::Cover(index));
+        let count = covered(tables, index);
         put_cover_line(alloc, text, count, successes, wanted)?;
     }
     Ok(())
+}
+
+// How often the cover clause of that index was true.
+fn covered(tables: &Tables<'_>, index: usize) -> u64
+    requires { NoneStandsStill tables.now }
+    ensures { (outcomes : List Judged) → StandsFor tables.now outcomes → result ≡ times_covered index outcomes }
+{
+    tables.count_of(&Counted::Cover(index))
 }
 
 fn put_cover_line(
