@@ -4,3 +4,5 @@ mod Keys
 mod KeyCounts
 mod Stands
 mod CoverLaws
+mod Ascending
+mod RowOrder

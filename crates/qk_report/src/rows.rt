@@ -1,10 +1,10 @@
 //! The rows of a table, in their order.
-ghost use Rattle.std.specs.Prelude.{◌≡◌, IfOk, IsPermutation, IsSorted, IsTrue, List, map, option_map};
+ghost use Rattle.std.specs.Prelude.{◌≡◌, IfOk, IsTrue, List, map, option_map};
 ghost use Rattle.qk_base.specs.Judged.{Judged};
 ghost use Rattle.qk_report.specs.Counted.{StandsFor, count_of, key_in};
-ghost use Rattle.qk_report.specs.RowsView.{NoneStandsStill, row_behind, row_under, rows_in, section_in, text_under};
+ghost use Rattle.qk_report.specs.RowsView.{NoneStandsStill, row_behind, row_under, section_in, text_under};
 ghost use Rattle.qk_report.specs.TableLines.{classes, labels, table, texts_in};
-ghost use Rattle.qk_report.specs.Tables.{row_cmp, rows_of};
+ghost use Rattle.qk_report.specs.Tables.{rows_of};
 
 use crate::counted::Counted;
 use crate::tables::Tables;
@@ -60,25 +60,13 @@ impl<'p> Tables<'p> {
         ensures { IfOk result (λ rows. (outcomes : List Judged) → StandsFor self.entry.now outcomes
             → map row_behind rows.items ≡ rows_of (texts_in self.entry.now.property.now outcomes (section_in section.entry))) }
     {
-        let mut rows = self.found_rows(alloc, section)?;
-        rows.sort()?;
-        Ok(rows)
-    }
-
-    // The rows of a table in the order in which they came up.
-    fn found_rows<'t>(
-        &'t self,
-        alloc: Global,
-        section: Section<'t>,
-    ) -> Result<Vec<RowRef<'t>>, Memory>
-        ensures { IfOk result (λ rows. map row_behind rows.items ≡ rows_in self.entry.now (section_in section.entry)) }
-    {
         let mut rows = Vec::new(alloc);
         for (key, count) in self.counts.iter() {
             if let Some(row) = row_of(key, *count, section) {
                 rows.push(row)?;
             }
         }
+        rows.sort()?;
         Ok(rows)
     }
 }
