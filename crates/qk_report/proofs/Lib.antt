@@ -6,3 +6,4 @@ mod Stands
 mod CoverLaws
 mod Ascending
 mod RowOrder
+mod RowCounts
