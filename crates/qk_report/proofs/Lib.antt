@@ -7,3 +7,4 @@ mod CoverLaws
 mod Ascending
 mod RowOrder
 mod RowCounts
+mod TableLaws

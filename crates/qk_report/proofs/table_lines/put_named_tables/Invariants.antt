@@ -8,5 +8,5 @@ use Rattle.qk_report.proofs.table_lines.put_named_tables.Given as goal
 
 abbrev pub invariant-loop-name : goal.invariant-loop-name
 invariant-loop-name l = (outcomes : List Judged) → IsFitting l.tables l.successes outcomes →
-    l.text.items ++ flat_map (section_lines l.tables.property.now outcomes) (map table (map (λ name. name.now) (drop l.name-index l.kept.items)))
-    ≡ l.fn.text.items ++ flat_map (section_lines l.tables.property.now outcomes) (map table (map (λ name. name.now) l.kept.items))
+    l.text.items ++ flat_map (section_lines l.tables.property.now outcomes) (map table (map (λ name. name.now) (drop l.name-index l.name-items)))
+    ≡ l.fn.text.items ++ flat_map (section_lines l.tables.property.now outcomes) (map table (map (λ name. name.now) l.name-items))
