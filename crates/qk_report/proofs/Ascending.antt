@@ -55,7 +55,7 @@ module _ {K : Type 0} {R : K → K → Ordering} (o : IsTotalOrder R) (tied : (x
       by Equal e rest =
           let is : x ≡ y = tied x y e in
           let tails : xs ≡ ys = rest (λ z. same_rest (occ z xs) (occ z ys) (cond (is_eq (R z y)) 1 0)
-              (ap (λ t. occ z xs + cond (is_eq (R z t)) 1 0) (sym is) ∙ sym (count_cons (λ y. is_eq (R z y)) x xs) ∙ same z ∙ count_cons (λ y. is_eq (R z y)) y ys)) in
+          (ap (λ t. occ z xs + cond (is_eq (R z t)) 1 0) (sym is) ∙ sym (count_cons (λ y. is_eq (R z y)) x xs) ∙ same z ∙ count_cons (λ y. is_eq (R z y)) y ys)) in
           λ i. is i ∷ tails i
 
   not_greater : (x y : K) (r : Ordering) → R y x ≡ r → is_lt r ≡ false → is_gt (R x y) ≡ false

@@ -52,6 +52,7 @@ row_is q n t = both_ways (is_eq (row_cmp q (record { count = n; text = t }))) (q
   where
     there : is_eq (row_cmp q (record { count = n; text = t })) ≡ true → q.count == n && bytes_eq q.text t ≡ true
     there e = same_parts q n t (row_cmp q (record { count = n; text = t })) refl e
+
     back : q.count == n && bytes_eq q.text t ≡ true → is_eq (row_cmp q (record { count = n; text = t })) ≡ true
     back e =
         let both = both_true (q.count == n) (bytes_eq q.text t) e in
@@ -112,11 +113,13 @@ occ_made q texts (u ∷ us) =
     here : (b : Bool) (n : ℕ) → cond b n 0 + cond (b && true) 1 0 ≡ cond b (n + 1) 0
     here true n = refl
     here false n = refl
+
     elsewhere : (b c : Bool) (n : ℕ) → cond b n 0 + cond (c && false) 1 0 ≡ cond b (n + 0) 0
     elsewhere true true n = refl
     elsewhere true false n = refl
     elsewhere false true n = refl
     elsewhere false false n = refl
+
     by : (b : Bool) → bytes_eq q.text u ≡ b
         → cond (q.count == times q.text texts) (times q.text us) 0 + cond (q.count == times u texts && b) 1 0 ≡ cond (q.count == times q.text texts) (times q.text us + cond b 1 0) 0
     by true e =

@@ -54,6 +54,7 @@ asc_placed row (x ∷ xs) a = by (row_cmp row x) refl (asc_placed row xs a.1)
   where
     before : is_gt (row_cmp row x) ≡ false → Asc (row ∷ x ∷ xs)
     before h = ((h, all_weaker (λ z k. upto row_total row x z h k) xs a.0), a)
+
     by : (r : Ordering) → row_cmp row x ≡ r → Asc (placed row xs) → Asc (cond (is_lt r) (row ∷ x ∷ xs) (x ∷ placed row xs))
     by Less e rest = before (ap is_gt e)
     by Equal e rest = (all_placed (λ z. is_gt (row_cmp x z) ≡ false) row xs (ap is_gt (row_total.antisymm x row ∙ ap ordering_reverse e)) a.0, rest)

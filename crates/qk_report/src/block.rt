@@ -58,7 +58,16 @@ pub fn put_failed_block(
     requires { successes < 2 ^ 64 - 1 }
     ensures { OnOk result (text.new.items ≡ text.old.items ++ failed_block kinds.now number property.now successes discards (failure_in failure.now)) }
 {
-    put_failure(alloc, text, kinds, number, property, successes, discards, failure.lent())
+    put_failure(
+        alloc,
+        text,
+        kinds,
+        number,
+        property,
+        successes,
+        discards,
+        failure.lent(),
+    )
 }
 
 /// Adds the block of a property that failed.
@@ -78,7 +87,13 @@ pub(crate) fn put_failure(
     let name = property.name.as_slice();
     put_first_line(alloc, text, name, "failed after ", successes + 1, discards)?;
     put_cause_and_attempt(alloc, text, failure)?;
-    put_shrinks_line(alloc, text, failure.path.len(), failure.tried, failure.limit_met)?;
+    put_shrinks_line(
+        alloc,
+        text,
+        failure.path.len(),
+        failure.tried,
+        failure.limit_met,
+    )?;
     put_counterexample(alloc, text, kinds, number, property, failure)
 }
 

@@ -28,11 +28,7 @@ pub(crate) fn keys_given<'p>(
     Ok(keys)
 }
 
-fn give_label<'p>(
-    alloc: Global,
-    keys: &mut Vec<Counted<'p>>,
-    label: &[u8],
-) -> Result<(), Memory>
+fn give_label<'p>(alloc: Global, keys: &mut Vec<Counted<'p>>, label: &[u8]) -> Result<(), Memory>
     ensures { OnOk result (map key_in keys.new.items ≡ map key_in keys.old.items ++ map label_key (label_of label.now)) }
 {
     if label.is_empty() {
@@ -87,10 +83,7 @@ fn true_names<'p>(
 }
 
 /// Each name once, in the order of the first places.
-pub(crate) fn distinct<'p>(
-    alloc: Global,
-    names: &[&'p [u8]],
-) -> Result<Vec<&'p [u8]>, Memory>
+pub(crate) fn distinct<'p>(alloc: Global, names: &[&'p [u8]]) -> Result<Vec<&'p [u8]>, Memory>
     ensures { IfOk result (λ kept. map (λ name. name.now) kept.items ≡ distinct_texts (map (λ name. name.now) names.entry.now)) }
 {
     let mut kept = Vec::new(alloc);

@@ -12,6 +12,8 @@ mod property_block;
 mod rows;
 mod table_lines;
 mod tables;
+#[cfg(test)]
+mod tests;
 mod texts;
 mod token;
 mod told;
@@ -21,7 +23,7 @@ pub use block::{put_failed_block, put_gave_up_block, put_passed_block, put_repla
 pub use failure::Failure;
 pub use lines::put_last_line;
 pub use property_block::{property_text, put_property_block};
-pub use tables::Tables;
 pub use qk_schedule::Finish;
+pub use tables::Tables;
 pub use texts::{put, put_named};
 pub use told::Told;

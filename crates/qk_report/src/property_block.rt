@@ -51,11 +51,7 @@ pub fn put_property_block(
     put_work(alloc, text, told.work)
 }
 
-fn put_work(
-    alloc: Global,
-    text: &mut Bytes,
-    work: Option<(u64, u64, u64)>,
-) -> Result<(), Memory>
+fn put_work(alloc: Global, text: &mut Bytes, work: Option<(u64, u64, u64)>) -> Result<(), Memory>
     ensures { OnOk result (text.new.items ≡ text.old.items ++ work_text work) }
 {
     match work {

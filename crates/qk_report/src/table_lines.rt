@@ -139,12 +139,7 @@ fn put_row_lines(
     Ok(())
 }
 
-fn put_row_line(
-    alloc: Global,
-    text: &mut Bytes,
-    total: u64,
-    row: &RowRef<'_>,
-) -> Result<(), Memory>
+fn put_row_line(alloc: Global, text: &mut Bytes, total: u64, row: &RowRef<'_>) -> Result<(), Memory>
     ensures { OnOk result (text.new.items ≡ text.old.items ++ row_line total (row_behind row.entry.now)) }
 {
     let count = row.count.0;

@@ -54,7 +54,12 @@ pub(crate) fn put_replay_line(
     put(text, "\n")
 }
 
-fn put_token(alloc: Global, text: &mut Bytes, number: u32, failure: FailureRef<'_>) -> Result<(), Memory>
+fn put_token(
+    alloc: Global,
+    text: &mut Bytes,
+    number: u32,
+    failure: FailureRef<'_>,
+) -> Result<(), Memory>
     ensures { OnOk result (text.new.items ≡ text.old.items ++ token_text (token_of number (failure_behind failure.entry))) }
 {
     put_named(alloc, text, "q1:", number as u64)?;

@@ -9,7 +9,10 @@ use Rattle.qk_report.proofs.given.distinct.Goals.{then-not-is_among+in_ok-push, 
 pub loop-name-preserved : goal.loop-name-preserved
 loop-name-preserved c =
     let within : c.loop-name.name-index < length c.args.names.now = search rules in
-    elim c.if-not-is_among.branch [ then-not-is_among+in_ok-push w ↦
-    ap (λ v. map (λ name. name.now) v.items) w.kept-is ∙ ap (map (λ name. name.now)) w.in_ok-push.ensures.items ∙ map-append (λ name. name.now) c.loop-name.kept.items _
-    ∙ step_more (λ name. name.now) c.args.names.now c.loop-name.name-index _ _ within c.loop-name.invariant (search rules) | else-not-is_among w ↦
-    ap (λ v. map (λ name. name.now) v.items) w.kept-is ∙ step_same (λ name. name.now) c.args.names.now c.loop-name.name-index (record { ref_ptr = (0, 0); now = [] }) _ within c.loop-name.invariant (search rules) ]
+    elim c.if-not-is_among.branch [
+      | then-not-is_among+in_ok-push w ↦
+          ap (λ v. map (λ name. name.now) v.items) w.kept-is ∙ ap (map (λ name. name.now)) w.in_ok-push.ensures.items ∙ map-append (λ name. name.now) c.loop-name.kept.items _
+          ∙ step_more (λ name. name.now) c.args.names.now c.loop-name.name-index _ _ within c.loop-name.invariant (search rules)
+      | else-not-is_among w ↦
+          ap (λ v. map (λ name. name.now) v.items) w.kept-is ∙ step_same (λ name. name.now) c.args.names.now c.loop-name.name-index (record { ref_ptr = (0, 0); now = [] }) _ within c.loop-name.invariant (search rules)
+    ]

@@ -14,5 +14,5 @@ found_small test (e ∷ es) small = by (test e.0) (found_small test es small.1)
     by false rest = rest
 
 pub returns : goal.returns
-returns c = λ _ key. found_small (λ k. key_eq key (key_in k)) c.args.self.now.counts.entries 
+returns c = λ _ key. found_small (λ k. key_eq key (key_in k)) c.args.self.now.counts.entries
     (c.loop-count.invariant.so_far (subst (AllByRecursion (λ e. e.1 < 18446744073709551615)) (sym c.in-None.ensures.steps.0) tt))

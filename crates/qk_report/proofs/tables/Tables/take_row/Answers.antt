@@ -13,4 +13,3 @@ pub returns-clause-rows : goal.returns-clause-rows
 returns-clause-rows c = λ other there.
     let h = updates_key c.in_ok-own.own c.args.self.now.counts c.insert.new.self (Some 0) c.in_ok-insert.ensures.updates other in
     kept_row (entry_in c.args.self.now) other (key_in c.in_ok-own.own) _ 0 h there
-
