@@ -8,3 +8,4 @@ mod Ascending
 mod RowOrder
 mod RowCounts
 mod TableLaws
+mod Examples
