@@ -1,1 +1,11 @@
 pub mod TextLaws
+mod Distinct
+mod Keys
+mod KeyCounts
+mod Stands
+mod CoverLaws
+mod Ascending
+mod RowOrder
+mod RowCounts
+mod TableLaws
+mod Examples

@@ -1,4 +1,12 @@
 pub mod Block
+pub mod Counted
 pub mod FailureView
+pub mod Given
 pub mod Lines
+pub mod PropertyBlock
+pub mod RowsView
+pub mod TableLines
+pub mod Tables
 pub mod Token
+pub mod ToldView
+pub mod WantedView

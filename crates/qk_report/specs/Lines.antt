@@ -11,6 +11,10 @@ use Rattle.qk_report.specs.Token.{path_text, TokenData, token_text}
 abbrev pub line : List ℕ → List ℕ
 line text = text ++ 10 ∷ []
 
+-- a number behind its name
+abbrev pub named : List ℕ → ℕ → List ℕ
+named name n = name ++ decimal n
+
 -- a number of tests
 abbrev pub tests : ℕ → List ℕ
 tests n = decimal n ++ (if n == 1 then codes " test" else codes " tests")
@@ -56,6 +60,14 @@ limit_text false = []
 abbrev pub shrinks_line : ℕ → Option ℕ → Bool → List ℕ
 shrinks_line steps tried limit_met = line (codes "shrinks: " ++ decimal steps ++ tried_text tried ++ limit_text limit_met)
 
+-- .. of a replay
+abbrev pub steps_line : ℕ → List ℕ
+steps_line steps = line (named (codes "shrinks: ") steps)
+
+-- the first line of a replay
+abbrev pub replayed_line : List ℕ → List ℕ
+replayed_line name = line (name ++ codes ": replayed")
+
 -- a text of more than 4,096 bytes is cut to 4,093 and three dots
 abbrev pub shortened : List ℕ → List ℕ
 shortened text = if nat_lt 4096 (length text) then take 4093 text ++ codes "..." else text
@@ -75,9 +87,9 @@ path_line path = line (codes "path: " ++ path_text path)
 abbrev pub replay_line : TokenData → List ℕ
 replay_line token = line (codes "replay: " ++ token_text token)
 
--- a number behind its name
-abbrev pub named : List ℕ → ℕ → List ℕ
-named name n = name ++ decimal n
+-- windows begun, rounds of repair and stored trials
+abbrev pub work_line : ℕ × ℕ × ℕ → List ℕ
+work_line work = line (named (codes "work: windows ") work.0 ++ named (codes ", rounds ") work.1 ++ named (codes ", trials ") work.2)
 
 -- the last line: how many properties there were, and how many passed, failed and gave up
 abbrev pub last_line : ℕ → ℕ → ℕ → ℕ → List ℕ

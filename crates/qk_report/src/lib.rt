@@ -2,13 +2,28 @@
 #![tactic(auto)]
 
 mod block;
+mod counted;
+mod counting;
 mod failure;
+mod given;
 mod lines;
+mod names;
+mod property_block;
+mod rows;
+mod table_lines;
+mod tables;
+#[cfg(test)]
+mod tests;
 mod texts;
 mod token;
+mod told;
 mod value_lines;
 
-pub use block::{put_failed_block, put_gave_up_block, put_passed_block};
+pub use block::{put_failed_block, put_gave_up_block, put_passed_block, put_replayed_block};
 pub use failure::Failure;
 pub use lines::put_last_line;
+pub use property_block::{property_text, put_property_block};
+pub use qk_schedule::Finish;
+pub use tables::Tables;
 pub use texts::{put, put_named};
+pub use told::Told;

@@ -1,6 +1,6 @@
 //! The lines of a report.
 ghost use Rattle.std.specs.Prelude.{◌≡◌, ◌++◌, OnOk};
-ghost use Rattle.qk_report.specs.Lines.{tests, counts_text, first_line, cause_text, while_drawing, cause_line, attempt_line, tried_text, limit_text, shrinks_line, last_line};
+ghost use Rattle.qk_report.specs.Lines.{tests, counts_text, first_line, cause_text, while_drawing, cause_line, attempt_line, tried_text, limit_text, shrinks_line, steps_line, replayed_line, work_line, last_line};
 
 use crate::texts::{put, put_named, put_number};
 use qk_base::{Bytes, Cause, Memory};
@@ -114,6 +114,36 @@ pub(crate) fn put_shrinks_line(
     put_named(alloc, text, "shrinks: ", steps as u64)?;
     put_tried(alloc, text, tried)?;
     put(text, limit_said(limit_met))?;
+    put(text, "\n")
+}
+
+/// Adds the line of the steps of a replay.
+pub(crate) fn put_steps_line(alloc: Global, text: &mut Bytes, steps: usize) -> Result<(), Memory>
+    ensures { OnOk result (text.new.items ≡ text.old.items ++ steps_line steps) }
+{
+    put_named(alloc, text, "shrinks: ", steps as u64)?;
+    put(text, "\n")
+}
+
+/// Adds the first line of a replay.
+pub(crate) fn put_replayed_line(text: &mut Bytes, name: &[u8]) -> Result<(), Memory>
+    ensures { OnOk result (text.new.items ≡ text.old.items ++ replayed_line name.now) }
+{
+    text.append(name)?;
+    put(text, ": replayed\n")
+}
+
+/// Adds the line of the work: windows begun, rounds of repair and stored trials.
+pub(crate) fn put_work_line(
+    alloc: Global,
+    text: &mut Bytes,
+    work: (u64, u64, u64),
+) -> Result<(), Memory>
+    ensures { OnOk result (text.new.items ≡ text.old.items ++ work_line work) }
+{
+    put_named(alloc, text, "work: windows ", work.0)?;
+    put_named(alloc, text, ", rounds ", work.1)?;
+    put_named(alloc, text, ", trials ", work.2)?;
     put(text, "\n")
 }
 

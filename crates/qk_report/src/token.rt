@@ -1,11 +1,11 @@
 //! The replay token's text.
 ghost use Rattle.std.specs.Prelude.{◌≡◌, ◌++◌, OnOk};
 ghost use Rattle.qk_report.specs.Block.{token_of};
-ghost use Rattle.qk_report.specs.FailureView.{failure_in};
+ghost use Rattle.qk_report.specs.FailureView.{failure_behind};
 ghost use Rattle.qk_report.specs.Lines.{path_line, replay_line};
 ghost use Rattle.qk_report.specs.Token.{dotted, path_text, token_text};
 
-use crate::failure::Failure;
+use crate::failure::FailureRef;
 use crate::texts::{put, put_named, put_number};
 use qk_base::{Bytes, Memory};
 use std::alloc::Global;
@@ -45,17 +45,22 @@ pub(crate) fn put_replay_line(
     alloc: Global,
     text: &mut Bytes,
     number: u32,
-    failure: &Failure,
+    failure: FailureRef<'_>,
 ) -> Result<(), Memory>
-    ensures { OnOk result (text.new.items ≡ text.old.items ++ replay_line (token_of number (failure_in failure.now))) }
+    ensures { OnOk result (text.new.items ≡ text.old.items ++ replay_line (token_of number (failure_behind failure.entry))) }
 {
     put(text, "replay: ")?;
     put_token(alloc, text, number, failure)?;
     put(text, "\n")
 }
 
-fn put_token(alloc: Global, text: &mut Bytes, number: u32, failure: &Failure) -> Result<(), Memory>
-    ensures { OnOk result (text.new.items ≡ text.old.items ++ token_text (token_of number (failure_in failure.now))) }
+fn put_token(
+    alloc: Global,
+    text: &mut Bytes,
+    number: u32,
+    failure: FailureRef<'_>,
+) -> Result<(), Memory>
+    ensures { OnOk result (text.new.items ≡ text.old.items ++ token_text (token_of number (failure_behind failure.entry))) }
 {
     put_named(alloc, text, "q1:", number as u64)?;
     put_named(alloc, text, ":", failure.seed)?;
@@ -63,5 +68,5 @@ fn put_token(alloc: Global, text: &mut Bytes, number: u32, failure: &Failure) ->
     put_named(alloc, text, ":", failure.size as u64)?;
     put_named(alloc, text, ":", failure.fuel as u64)?;
     put(text, ":")?;
-    put_path(alloc, text, failure.path.as_slice())
+    put_path(alloc, text, failure.path)
 }
