@@ -2,3 +2,5 @@ pub mod Block
 pub mod FailureView
 pub mod Lines
 pub mod Token
+pub mod TokenWords
+pub mod TokenView

@@ -6,9 +6,11 @@ mod failure;
 mod lines;
 mod texts;
 mod token;
+mod tokens;
 mod value_lines;
 
 pub use block::{put_failed_block, put_gave_up_block, put_passed_block};
 pub use failure::Failure;
 pub use lines::put_last_line;
 pub use texts::{put, put_named};
+pub use tokens::Token;
