@@ -1,0 +1,5 @@
+pub mod Options
+pub mod Parts
+pub mod Accepted
+pub mod SettingsData
+pub mod Given
