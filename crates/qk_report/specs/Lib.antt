@@ -4,3 +4,4 @@ pub mod Lines
 pub mod Token
 pub mod TokenWords
 pub mod TokenView
+pub mod Numerals

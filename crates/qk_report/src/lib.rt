@@ -4,6 +4,7 @@
 mod block;
 mod failure;
 mod lines;
+mod numerals;
 mod texts;
 mod token;
 mod tokens;
@@ -12,5 +13,6 @@ mod value_lines;
 pub use block::{put_failed_block, put_gave_up_block, put_passed_block};
 pub use failure::Failure;
 pub use lines::put_last_line;
+pub use numerals::number_of;
 pub use texts::{put, put_named};
 pub use tokens::Token;

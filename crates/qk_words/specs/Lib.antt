@@ -3,3 +3,6 @@ pub mod Parts
 pub mod Accepted
 pub mod SettingsData
 pub mod Given
+pub mod Walk
+pub mod QuickerCommand
+pub mod Matches
