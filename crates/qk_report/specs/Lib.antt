@@ -5,3 +5,4 @@ pub mod Token
 pub mod TokenWords
 pub mod TokenView
 pub mod Numerals
+pub mod TokenReader

@@ -7,6 +7,7 @@ mod lines;
 mod numerals;
 mod texts;
 mod token;
+mod token_parsing;
 mod tokens;
 mod value_lines;
 
@@ -15,4 +16,5 @@ pub use failure::Failure;
 pub use lines::put_last_line;
 pub use numerals::number_of;
 pub use texts::{put, put_named};
+pub use token_parsing::TokenFault;
 pub use tokens::Token;
