@@ -42,6 +42,10 @@ pub record Gives (ps : List Part) (s : SettingsData) : Type 0 where
 abbrev pub AreSettings : List Text → SettingsData → Type 0
 AreSettings words s = (ps : List Part) × (IsSpelling words ps × Gives ps s)
 
--- the words are accepted, and the word that they give for `--replay` is no token
+-- the word that is given for `--replay` is no token
+abbrev pub IsBadTokenGiven : List Part → Type 0
+IsBadTokenGiven ps = (word : Text) × ((given (option_text Replay) ps ≡ Some word) × ((t : TokenData) → IsTokenOf word t → ⊥))
+
+-- the words are accepted, and their word for `--replay` is no token
 abbrev pub HasBadToken : List Text → Type 0
-HasBadToken words = (ps : List Part) × (IsSpelling words ps × ((word : Text) × ((given (option_text Replay) ps ≡ Some word) × ((t : TokenData) → IsTokenOf word t → ⊥))))
+HasBadToken words = (ps : List Part) × (IsSpelling words ps × IsBadTokenGiven ps)

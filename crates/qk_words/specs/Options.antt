@@ -1,5 +1,5 @@
 -- The options and flags of a call: their names, and the numbers that an option takes.
-use Rattle.std.specs.Prelude.{ℕ, ◌-◌, ◌^◌, List, Option, Some, None, codes}
+use Rattle.std.specs.Prelude.{ℕ, ◌-◌, ◌^◌, ◌≤◌, List, Option, Some, None, codes}
 use Rattle.qk_words.specs.declared.options.OptionName.{OptionName}
 use Rattle.qk_words.specs.declared.options.OptionName.TheVariants.{Seed, Success, Ratio, MaxSize, Fuel, Workers, Window, Shrinks, Replay, Generate}
 use Rattle.qk_words.specs.declared.options.FlagName.{FlagName}
@@ -36,3 +36,11 @@ range_of Window = Some (1, 4096)
 range_of Shrinks = Some (0, 1024)
 range_of Replay = None
 range_of Generate = Some (1, 1000)
+
+-- the number is one that the option takes
+abbrev pub IsBetween : Option (ℕ × ℕ) → ℕ → Type 0
+IsBetween None n = ⊥
+IsBetween (Some range) n = (range.0 ≤ n) × (n ≤ range.1)
+
+abbrev pub IsTaken : OptionName → ℕ → Type 0
+IsTaken name n = IsBetween (range_of name) n

@@ -1,8 +1,14 @@
 //! The words of a call: which are accepted, and the settings that they give.
 #![tactic(auto)]
 
+mod command;
+mod numbers;
 mod options;
+mod reading;
 mod settings;
+mod walk;
 
+pub use command::read_accepted;
 pub use options::{FlagName, OptionName};
+pub use reading::read_words;
 pub use settings::{Aim, Settings, WordsFault};
