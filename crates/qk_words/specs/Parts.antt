@@ -57,9 +57,12 @@ is_number v = nat_lt 0 (length v) && (nat_le (length v) 20 && all_ascii_digits v
 abbrev pub number : Text → ℕ
 number v = digits_value 10 v
 
+abbrev pub is_number_within : ℕ → ℕ → Text → Bool
+is_number_within least greatest v = is_number v && (nat_le least (number v) && nat_le (number v) greatest)
+
 -- the value is one of that option: a number in its range, or any word for a token
 abbrev pub fits : OptionName → Text → Bool
-fits n v = option_map_or (λ r. is_number v && (nat_le r.0 (number v) && nat_le (number v) r.1)) (range_of n) true
+fits n v = option_map_or (λ r. is_number_within r.0 r.1 v) (range_of n) true
 
 abbrev pub is_part : Part → Bool
 is_part (split n v) = is_plain v && fits n v

@@ -30,14 +30,18 @@ or_else (Some x) o = Some x
 
 abbrev pub first_named : List OptionName → Text → Option (OptionName × Option Text)
 first_named [] w = None
-first_named (n ∷ ns) w = or_else (option_named n w) (first_named ns w)
+first_named (n ∷ []) w = option_named n w
+first_named (n ∷ m ∷ ns) w = or_else (option_named n w) (first_named (m ∷ ns) w)
 
-abbrev pub options : List OptionName
-options = Seed ∷ Success ∷ Ratio ∷ MaxSize ∷ Fuel ∷ Workers ∷ Window ∷ Shrinks ∷ Replay ∷ Generate ∷ []
+abbrev pub loop_options : List OptionName
+loop_options = Seed ∷ Success ∷ Ratio ∷ MaxSize ∷ Fuel ∷ []
+
+abbrev pub other_options : List OptionName
+other_options = Workers ∷ Window ∷ Shrinks ∷ Replay ∷ Generate ∷ []
 
 -- the option that a text begins with, and the value behind it
 abbrev pub option_of : Text → Option (OptionName × Option Text)
-option_of w = first_named options w
+option_of w = or_else (first_named loop_options w) (first_named other_options w)
 
 abbrev pub flag_of : Text → Option FlagName
 flag_of w = if bytes_eq w (flag_text Greedy) then Some Greedy else (if bytes_eq w (flag_text Work) then Some Work else None)

@@ -1,29 +1,36 @@
 //! Numbers as options take them.
-ghost use Rattle.std.specs.Prelude.{◌≡◌, ◌&&◌, nat_le, true};
+ghost use Rattle.std.specs.Prelude.{◌≡◌, ◌&&◌, nat_le};
 ghost use Rattle.std.specs.Str.{all_ascii_digits};
-ghost use Rattle.qk_words.specs.Parts.{is_number, number};
+ghost use Rattle.qk_words.specs.Parts.{is_number, is_number_within};
 
 use qk_report::number_of;
 
 fn are_digits(text: &[u8]) -> bool
     ensures { result ≡ all_ascii_digits text.now }
 {
-    text.iter().all(|b| b.is_ascii_digit())
+    for byte in text {
+        if !byte.is_ascii_digit() {
+            return false;
+        }
+    }
+    true
 }
 
 /// Whether the text is one to twenty digits.
-pub(crate) fn is_number(text: &[u8]) -> bool
+fn is_number(text: &[u8]) -> bool
     ensures { result ≡ is_number text.now }
 {
     !text.is_empty() && text.len() <= 20 && are_digits(text)
 }
 
-/// Whether the number that digits write is at least the one and at most the other.
-pub(crate) fn is_within(digits: &[u8], least: u64, greatest: u64) -> bool
-    requires { all_ascii_digits digits.now ≡ true }
-    ensures { result ≡ (nat_le least (number digits.now) && nat_le (number digits.now) greatest) }
+/// Whether the text is a number that is at least the one and at most the other.
+pub(crate) fn is_number_within(text: &[u8], least: u64, greatest: u64) -> bool
+    ensures { result ≡ is_number_within least greatest text.now }
 {
-    match number_of(digits) {
+    if !is_number(text) {
+        return false;
+    }
+    match number_of(text) {
         None => false,
         Some(number) => least <= number && number <= greatest,
     }

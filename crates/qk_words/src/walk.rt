@@ -2,9 +2,9 @@
 ghost use Rattle.std.specs.Prelude.{◌≡◌, ◌<◌, ◌↔◌, IsTrue, map, string_bytes, option_map, Some, [], codes};
 ghost use Rattle.qk_words.specs.Accepted.{IsAccepted};
 ghost use Rattle.qk_words.specs.Parts.{fits, is_plain};
-ghost use Rattle.qk_words.specs.Walk.{after_name, ends_well, file_place, flag_of, flag_place, has, is_good, marked, nothing, option_named, option_of, option_place, step, step_file, step_flag, step_option, step_part, strip};
+ghost use Rattle.qk_words.specs.Walk.{after_name, ends_well, first_named, flag_of, flag_place, has, is_good, loop_options, marked, nothing, option_named, option_of, option_place, other_options, step, step_file, step_flag, step_option, step_part, strip};
 
-use crate::numbers::{is_number, is_within};
+use crate::numbers::is_number_within;
 use crate::options::{FlagName, OptionName};
 
 /// What was met so far.
@@ -45,7 +45,7 @@ impl OptionName {
     {
         match self.range() {
             None => true,
-            Some((least, greatest)) => is_number(value) && is_within(value, least, greatest),
+            Some((least, greatest)) => is_number_within(value, least, greatest),
         }
     }
 
@@ -95,29 +95,50 @@ fn is_plain(word: &[u8]) -> bool
     }
 }
 
-const OPTIONS: [OptionName; 10] = [
-    OptionName::Seed,
-    OptionName::Success,
-    OptionName::Ratio,
-    OptionName::MaxSize,
-    OptionName::Fuel,
-    OptionName::Workers,
-    OptionName::Window,
-    OptionName::Shrinks,
-    OptionName::Replay,
-    OptionName::Generate,
-];
-
 /// The option that a text begins with, and the value behind it.
 fn option_of<'w>(name: &'w [u8]) -> Option<(OptionName, Option<&'w [u8]>)>
     ensures { option_map (λ p. (p.0, option_map (λ v. v.now) p.1)) result ≡ option_of name.now }
 {
-    for option in OPTIONS {
-        if let Some(found) = option.read(name) {
-            return Some(found);
-        }
+    match loop_option_of(name) {
+        Some(found) => Some(found),
+        None => other_option_of(name),
     }
-    None
+}
+
+fn loop_option_of<'w>(name: &'w [u8]) -> Option<(OptionName, Option<&'w [u8]>)>
+    ensures { option_map (λ p. (p.0, option_map (λ v. v.now) p.1)) result ≡ first_named loop_options name.now }
+{
+    if let Some(found) = OptionName::Seed.read(name) {
+        return Some(found);
+    }
+    if let Some(found) = OptionName::Success.read(name) {
+        return Some(found);
+    }
+    if let Some(found) = OptionName::Ratio.read(name) {
+        return Some(found);
+    }
+    if let Some(found) = OptionName::MaxSize.read(name) {
+        return Some(found);
+    }
+    OptionName::Fuel.read(name)
+}
+
+fn other_option_of<'w>(name: &'w [u8]) -> Option<(OptionName, Option<&'w [u8]>)>
+    ensures { option_map (λ p. (p.0, option_map (λ v. v.now) p.1)) result ≡ first_named other_options name.now }
+{
+    if let Some(found) = OptionName::Workers.read(name) {
+        return Some(found);
+    }
+    if let Some(found) = OptionName::Window.read(name) {
+        return Some(found);
+    }
+    if let Some(found) = OptionName::Shrinks.read(name) {
+        return Some(found);
+    }
+    if let Some(found) = OptionName::Replay.read(name) {
+        return Some(found);
+    }
+    OptionName::Generate.read(name)
 }
 
 fn flag_of(name: &[u8]) -> Option<FlagName>
@@ -184,7 +205,7 @@ impl State {
     }
 
     fn step_option(self, option: OptionName, value: Option<&[u8]>) -> Option<State>
-        ensures { result ≡ step_option (Some (option, option_map (λ v. v.now) value)) self [] }
+        ensures { result ≡ step_option (Some (option, option_map (λ v. v.now) value.entry)) self [] }
     {
         if self.has(option.place()) {
             return None;

@@ -1,0 +1,1 @@
+-- The numbers that parts give.
