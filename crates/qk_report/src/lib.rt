@@ -8,6 +8,8 @@ mod numerals;
 mod texts;
 mod token;
 mod token_parsing;
+#[cfg(test)]
+mod token_tests;
 mod tokens;
 mod value_lines;
 
