@@ -41,7 +41,7 @@ field_sound most bytes p e =
         let number = number_sound bytes q.0 q.1 read in
         let colon = past_sound 58 q.1 behind.0 behind.1.0 in
         subst (λ (r : ℕ × List ℕ). (bytes ≡ decimal r.0 ++ 58 ∷ r.1) × ((r.0 ≤ most) × (r.0 < 2 ^ 64))) behind.1.1
-            (number.0 ∙ ap (λ t. decimal q.0 ++ t) colon, (leb-true _ _ few, number.1))
+        (number.0 ∙ ap (λ t. decimal q.0 ++ t) colon, (leb-true _ _ few, number.1))
     by q read false few k = absurd (none_some p k)
 
 -- the text of the fields, each with the colon behind it
@@ -83,7 +83,7 @@ fields_sound bytes p e =
     let fourth = field_sound 1000 attempt.0.1 size.0 size.1.0 in
     let fifth = field_sound 1000000 size.0.1 fuel.0 fuel.1.0 in
     let whole : bytes ≡ decimal property.0.0 ++ 58 ∷ (decimal seed.0.0 ++ 58 ∷ (decimal attempt.0.0 ++ 58 ∷ (decimal size.0.0 ++ 58 ∷ (decimal fuel.0.0 ++ 58 ∷ fuel.0.1)))) =
-        first.0 ∙ ap (λ t. decimal property.0.0 ++ 58 ∷ t) (second.0 ∙ ap (λ t. decimal seed.0.0 ++ 58 ∷ t) (third.0 ∙ ap (λ t. decimal attempt.0.0 ++ 58 ∷ t) (fourth.0 ∙ ap (λ t. decimal size.0.0 ++ 58 ∷ t) fifth.0))) in
+    first.0 ∙ ap (λ t. decimal property.0.0 ++ 58 ∷ t) (second.0 ∙ ap (λ t. decimal seed.0.0 ++ 58 ∷ t) (third.0 ∙ ap (λ t. decimal attempt.0.0 ++ 58 ∷ t) (fourth.0 ∙ ap (λ t. decimal size.0.0 ++ 58 ∷ t) fifth.0))) in
     by property.0.0 seed.0.0 attempt.0.0 size.0.0 fuel.0.0 fuel.0.1 whole first.1.0 second.1.1 third.1.0 fourth.1.0 fifth.1.0 (nat_lt 0 fuel.0.0) refl fuel.1.1
   where
     by : (a b c d f : ℕ) (rest : List ℕ) → bytes ≡ decimal a ++ 58 ∷ (decimal b ++ 58 ∷ (decimal c ++ 58 ∷ (decimal d ++ 58 ∷ (decimal f ++ 58 ∷ rest))))
@@ -92,5 +92,5 @@ fields_sound bytes p e =
         → (bytes ≡ fields_text p.0 p.1) × AreFields p.0
     by a b c d f rest whole ha hb hc hd hf true some k =
         subst (λ (q : Fields × List ℕ). (bytes ≡ fields_text q.0 q.1) × AreFields q.0) (some_eq _ p k)
-            (whole, record { property = ha; seed = hb; attempt = hc; size = hd; fuel = (ltb-true 0 f some, hf) })
+        (whole, record { property = ha; seed = hb; attempt = hc; size = hd; fuel = (ltb-true 0 f some, hf) })
     by a b c d f rest whole ha hb hc hd hf false some k = absurd (none_some p k)

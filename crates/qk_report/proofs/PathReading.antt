@@ -52,10 +52,11 @@ pub path_goes_on : (path new rest after : List ℕ) (n : ℕ) (whole : Option (L
     → (length new ≤ 1024) × (option_map (λ ns. new ++ ns) (dotted_in (1024 - length new) after) ≡ whole)
 path_goes_on path new rest after n whole longer few some e kept =
     let grown : length new ≡ length path + 1 = ap length longer ∙ length_push path n in
-    let left : suc (1024 - length new) ≡ 1024 - length path = omega (arith, grown, few) in
-    (omega (arith, grown, few),
-     subst (λ t. option_map (λ ns. t ++ ns) (dotted_in (1024 - length new) after) ≡ whole) (sym longer)
-         (path_more (1024 - length new) path rest after n some e ∙ ap (λ k. option_map (λ ns. path ++ ns) (dotted_in k rest)) left ∙ kept))
+    let left : suc (1024 - length new) ≡ 1024 - length path = omega (arith, grown, few) in (
+      omega (arith, grown, few),
+      subst (λ t. option_map (λ ns. t ++ ns) (dotted_in (1024 - length new) after) ≡ whole) (sym longer)
+          (path_more (1024 - length new) path rest after n some e ∙ ap (λ k. option_map (λ ns. path ++ ns) (dotted_in k rest)) left ∙ kept),
+    )
 
 pub path_ends : (k : ℕ) (path rest : List ℕ) → length rest ≡ 0 → option_map (λ ns. path ++ ns) (dotted_in k rest) ≡ Some path
 path_ends k path [] e = ap (λ o. option_map (λ ns. path ++ ns) o) (dotted_end k) ∙ ap (λ t. Some t) (append-nil path)
@@ -129,7 +130,7 @@ numbers_sound bytes ns e =
     let number = number_sound bytes found.0.0 found.0.1 found.1.0 in
     let later = dotted_sound 1023 found.0.1 rest.0 rest.1.0 in
     subst (λ ms. IsPathText bytes ms) rest.1.1
-        (record { text = number.0 ∙ ap (λ t. decimal found.0.0 ++ t) later.text; few = omega (arith, later.few); all = All-cons (λ x. x < 2 ^ 64) found.0.0 rest.0 number.1 later.all })
+    (record { text = number.0 ∙ ap (λ t. decimal found.0.0 ++ t) later.text; few = omega (arith, later.few); all = All-cons (λ x. x < 2 ^ 64) found.0.0 rest.0 number.1 later.all })
 
 pub path_sound : (bytes ns : List ℕ) → path_in bytes ≡ Some ns → IsPathText bytes ns
 path_sound bytes ns e = by (bytes_eq bytes (codes "-")) refl e

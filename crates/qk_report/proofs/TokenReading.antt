@@ -42,16 +42,19 @@ token_sound word t e =
     let fields = fields_sound marked.0 found.0 marked.1.1 in
     let steps = path_sound found.0.1 path.0 path.1.0 in
     let whole : word ≡ codes "q1:" ++ fields_text found.0.0 (path_text path.0) =
-        unmarked_sound word marked.0 marked.1.0 ∙ ap (λ x. codes "q1:" ++ x) (fields.0 ∙ ap (fields_text found.0.0) steps.text) in
-    subst (IsTokenOf word) path.1.1 (record {
-      property = fields.1.property;
-      seed = fields.1.seed;
-      attempt = fields.1.attempt;
-      size = fields.1.size;
-      fuel = fields.1.fuel;
-      steps = steps.few;
-      numbers = steps.all;
-    }, whole ∙ sym (text_is (with_path found.0.0 path.0)))
+    unmarked_sound word marked.0 marked.1.0 ∙ ap (λ x. codes "q1:" ++ x) (fields.0 ∙ ap (fields_text found.0.0) steps.text) in
+    subst (IsTokenOf word) path.1.1 (
+      record {
+        property = fields.1.property;
+        seed = fields.1.seed;
+        attempt = fields.1.attempt;
+        size = fields.1.size;
+        fuel = fields.1.fuel;
+        steps = steps.few;
+        numbers = steps.all;
+      },
+      whole ∙ sym (text_is (with_path found.0.0 path.0)),
+    )
 
 -- a word is the text of one token at most
 pub one_token : (word : List ℕ) (t u : TokenData) → IsTokenOf word t → IsTokenOf word u → t ≡ u

@@ -1,5 +1,5 @@
 -- The values that parts give.
-use Rattle.std.proofs.Common.{◌≡◌, ◌∙◌, ℕ, Bool, true, false, not, List, [], ◌∷◌, ◌||◌, Option, Some, None, option_map, is_some, cond, codes, refl, sym, ap, subst, true≢false}
+use Rattle.std.proofs.Common.{◌≡◌, ◌∙◌, ℕ, Bool, true, false, not, List, [], ◌∷◌, ◌||◌, Option, Some, None, Result, Ok, Err, option_map, is_some, cond, codes, refl, sym, ap, subst, true≢false}
 use Rattle.std.specs.Cmp.Lexicographic.{bytes_decides}
 use Rattle.std.specs.List.{find, list_all}
 use Rattle.std.specs.Str.{bytes_eq}
@@ -46,3 +46,11 @@ given_some (Some v) e = (v, refl)
 -- where FILE is not given, a number of properties is
 pub generates : (ps : List Part) → has_aim ps ≡ true → given (codes "file") ps ≡ None → (v : Text) × (given (option_text Generate) ps ≡ Some v)
 generates ps aim none = given_some (given (option_text Generate) ps) (sym (ap (λ o. is_one (is_some o) (is_given (option_text Generate) ps)) none) ∙ aim)
+
+abbrev err_or : {T E : Type 0} → Result T E → E → E
+err_or (Ok x) e = e
+err_or (Err f) e = f
+
+-- an error says the same whatever an Ok would hold
+pub same_error : {T U E : Type 0} (e f : E) → ◌≡◌ {A = Result T E} (Err e) (Err f) → ◌≡◌ {A = Result U E} (Err e) (Err f)
+same_error e f h = ap (λ r. Err (err_or r e)) h

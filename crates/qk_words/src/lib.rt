@@ -6,6 +6,8 @@ mod numbers;
 mod options;
 mod reading;
 mod settings;
+#[cfg(test)]
+mod tests;
 mod walk;
 
 pub use command::read_accepted;

@@ -11,4 +11,4 @@ returns c = λ ps m.
     let rows = rows_of (found_of c.args.matches.now) in
     let told = one_text-rows (found_of c.args.matches.now) c.text.result.now ∙ ap (λ id. one_of id rows) c.text.ensures ∙ m.flags c.args.name in
     (elim (is_given (flag_text c.args.name) ps) as (λ b. one_text (found_of c.args.matches.now) c.text.result.now ≡ Some (if b then codes "true" else codes "false") → c.get_flag.result ≡ b)
-        [ true ↦ c.get_flag.ensures.value | false ↦ c.get_flag.ensures.other ]) told
+    [ true ↦ c.get_flag.ensures.value | false ↦ c.get_flag.ensures.other ]) told

@@ -3,6 +3,7 @@ use Rattle.std.specs.String.{string_bytes}
 use Rattle.clap.specs.Words.{found_of, rows_of}
 use Rattle.qk_words.specs.Accepted.{IsAccepted}
 use Rattle.qk_words.specs.Matches.{AreMatches, HasMatches}
+use Rattle.qk_words.proofs.GivenLaws.{same_error}
 use Rattle.qk_words.proofs.Matched.{matched}
 use Rattle.qk_words.proofs.reading.read_words.Goals as goal
 
@@ -15,7 +16,7 @@ pub returns-in-Err-read_aim-clause-bad_token : goal.returns-in-Err-read_aim-clau
 returns-in-Err-read_aim-clause-bad_token c = λ e.
     let accepted : IsAccepted (map string_bytes c.args.words.now) = c.if-not-are_accepted.ensures.0 refl in
     let found : AreMatches accepted.0 (rows_of (found_of c.in-Ok.matches)) = subst (AreMatches accepted.0) (sym c.in-Ok.ensures.ok) (matched (map string_bytes c.args.words.now) accepted.0 accepted.1) in
-    (accepted.0, (accepted.1, c.in-Err-read_aim.ensures.bad e accepted.0 found))
+    (accepted.0, (accepted.1, c.in-Err-read_aim.ensures.bad (same_error _ _ e) accepted.0 found))
 
 pub settings_for-requires : goal.settings_for-requires
 settings_for-requires c =
