@@ -7,6 +7,7 @@ mod lines;
 mod numerals;
 mod texts;
 mod token;
+mod token_laws;
 mod token_parsing;
 #[cfg(test)]
 mod token_tests;
@@ -18,5 +19,6 @@ pub use failure::Failure;
 pub use lines::put_last_line;
 pub use numerals::number_of;
 pub use texts::{put, put_named};
+pub use token_laws::tokens_have_one_text;
 pub use token_parsing::TokenFault;
 pub use tokens::Token;

@@ -8,3 +8,4 @@ pub mod ValueLaws
 pub mod KeyLaws
 pub mod WalkLaws
 pub mod GivenLaws
+pub mod OneAnswer

@@ -2,6 +2,7 @@
 #![tactic(auto)]
 
 mod command;
+mod laws;
 mod numbers;
 mod options;
 mod reading;
@@ -11,6 +12,7 @@ mod tests;
 mod walk;
 
 pub use command::read_accepted;
+pub use laws::words_have_one_answer;
 pub use options::{FlagName, OptionName};
 pub use reading::read_words;
 pub use settings::{Aim, Settings, WordsFault};
