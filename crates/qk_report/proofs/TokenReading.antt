@@ -1,14 +1,14 @@
 -- A word is read as a token exactly where it is the text of one.
-use Rattle.std.proofs.Common.{◌≡◌, ◌∙◌, ℕ, Bool, true, false, List, [], ◌∷◌, ◌++◌, take, drop, length, Option, Some, None, option_map, decimal, codes, refl, sym, ap, subst, append_assoc, take-append-drop, arith, if◌then◌else◌}
+use Rattle.std.proofs.Common.{◌≡◌, ◌∙◌, ℕ, Bool, true, false, List, ◌++◌, take, drop, Some, None, option_map, decimal, codes, refl, sym, ap, subst, append_assoc, take-append-drop, if◌then◌else◌}
 use Rattle.std.specs.Cmp.Lexicographic.{bytes_decides}
 use Rattle.std.specs.Prelude.{option_and_then}
 use Rattle.std.specs.Str.{bytes_eq}
 use Rattle.qk_report.specs.declared.token_parsing.Fields.{Fields}
 use Rattle.qk_report.specs.Token.{TokenData, token_text, path_text}
 use Rattle.qk_report.specs.TokenReader.{fields_in, path_in, unmarked, with_path, token_in}
-use Rattle.qk_report.specs.TokenWords.{IsTokenInRange, IsTokenOf}
+use Rattle.qk_report.specs.TokenWords.{IsTokenOf}
 use Rattle.qk_report.proofs.NumberReading.{some_eq, none_some}
-use Rattle.qk_report.proofs.FieldReading.{then_some, map_some, fields_text, AreFields, fields_whole, fields_sound}
+use Rattle.qk_report.proofs.FieldReading.{then_some, map_some, fields_text, fields_whole, fields_sound}
 use Rattle.qk_report.proofs.PathReading.{path_sound, path_whole}
 
 regrouped : (q a b c d e p s : List ℕ) → q ++ a ++ s ++ b ++ s ++ c ++ s ++ d ++ s ++ e ++ s ++ p ≡ q ++ (a ++ (s ++ (b ++ (s ++ (c ++ (s ++ (d ++ (s ++ (e ++ (s ++ p))))))))))

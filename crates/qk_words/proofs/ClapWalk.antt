@@ -1,9 +1,8 @@
 -- The walk of the command over the words of parts.
-use Rattle.std.proofs.Common.{◌≡◌, ◌∙◌, ◌==◌, ℕ, Bool, true, false, not, List, [], ◌∷◌, ◌++◌, ◌&&◌, ◌||◌, refl, sym, ap, subst, Option, None, Some, map, append_assoc, fold, codes, if◌then◌else◌, arith, true≢false, rules}
+use Rattle.std.proofs.Common.{◌≡◌, ◌∙◌, ◌==◌, ℕ, Bool, true, false, not, List, [], ◌∷◌, ◌++◌, ◌||◌, refl, sym, ap, subst, Option, None, Some, map, append_assoc, fold, codes, true≢false}
 use Rattle.std.proofs.lemmas.List.{append-nil}
 use Rattle.std.specs.List.{list_all}
-use Rattle.std.specs.Str.{bytes_eq}
-use Rattle.clap.specs.Walk.{Row, Rule, Text, Walk, Held, has_row, settled, settled_rows, walked}
+use Rattle.clap.specs.Walk.{Row, Text, Walk, has_row, settled, settled_rows, walked}
 use Rattle.clap.specs.Takes.{settle_passes, turn_passes, walk_passes}
 use Rattle.qk_words.specs.Options.{option_text}
 use Rattle.qk_words.specs.Parts.{Part, split, joined, flag, file, words_of, key_of, spelled, is_part, is_plain, is_new, are_once}

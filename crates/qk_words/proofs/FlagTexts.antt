@@ -1,5 +1,5 @@
 -- What the matches say of a flag.
-use Rattle.std.proofs.Common.{◌≡◌, ◌∙◌, ◌==◌, ℕ, Bool, true, false, not, List, [], ◌∷◌, ◌++◌, ◌&&◌, ◌||◌, refl, sym, ap, subst, Option, None, Some, map, option_map, fold, cond, codes, if◌then◌else◌, is_some, true≢false, unwrap_or}
+use Rattle.std.proofs.Common.{◌≡◌, ◌∙◌, Bool, true, false, List, [], ◌∷◌, ◌++◌, ◌||◌, refl, sym, ap, subst, None, Some, map, option_map, fold, cond, codes, if◌then◌else◌, is_some, true≢false, unwrap_or}
 use Rattle.std.specs.Cmp.Lexicographic.{bytes_decides}
 use Rattle.std.specs.List.{find}
 use Rattle.std.specs.Prelude.{option_and_then}

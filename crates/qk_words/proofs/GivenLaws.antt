@@ -1,13 +1,11 @@
 -- The values that parts give.
-use Rattle.std.proofs.Common.{◌≡◌, ◌∙◌, ℕ, Bool, true, false, not, List, [], ◌∷◌, ◌||◌, Option, Some, None, Result, Ok, Err, option_map, is_some, cond, codes, refl, sym, ap, subst, true≢false}
+use Rattle.std.proofs.Common.{◌≡◌, ◌∙◌, ℕ, Bool, true, false, List, [], ◌∷◌, Some, None, Result, Ok, Err, option_map, cond, codes, refl, sym, ap, subst, true≢false}
 use Rattle.std.specs.Cmp.Lexicographic.{bytes_decides}
 use Rattle.std.specs.List.{find, list_all}
 use Rattle.std.specs.Str.{bytes_eq}
 use Rattle.qk_words.specs.declared.options.OptionName.{OptionName}
-use Rattle.qk_words.specs.declared.options.OptionName.TheVariants.{Replay, Generate}
-use Rattle.qk_words.specs.Accepted.{is_one, has_aim, replays_file}
 use Rattle.qk_words.specs.Options.{Text, option_text, flag_text, IsTaken}
-use Rattle.qk_words.specs.Parts.{Part, split, joined, flag, file, key_of, value_of, given, is_given, is_part, fits, number}
+use Rattle.qk_words.specs.Parts.{Part, split, joined, flag, file, key_of, value_of, given, is_part, fits}
 use Rattle.qk_words.specs.Walk.{option_of}
 use Rattle.qk_words.proofs.FlagTexts.{option_is_no_flag}
 use Rattle.qk_words.proofs.KeyLaws.{option_one, split_read}
@@ -38,14 +36,6 @@ given_fits n (p ∷ ps) v parts e =
 -- a number that is given is one that its option takes
 pub given_number : (n : OptionName) (ps : List Part) (v : Text) (d : ℕ) → list_all is_part ps ≡ true → IsTaken n d → given (option_text n) ps ≡ Some v → IsNumberOf n v
 given_number n ps v d parts taken e = fitting n v d taken (given_fits n ps v parts e)
-
-given_some : (o : Option Text) → is_some o ≡ true → (v : Text) × (o ≡ Some v)
-given_some None e = absurd (true≢false (sym e))
-given_some (Some v) e = (v, refl)
-
--- where FILE is not given, a number of properties is
-pub generates : (ps : List Part) → has_aim ps ≡ true → given (codes "file") ps ≡ None → (v : Text) × (given (option_text Generate) ps ≡ Some v)
-generates ps aim none = given_some (given (option_text Generate) ps) (sym (ap (λ o. is_one (is_some o) (is_given (option_text Generate) ps)) none) ∙ aim)
 
 abbrev err_or : {T E : Type 0} → Result T E → E → E
 err_or (Ok x) e = e

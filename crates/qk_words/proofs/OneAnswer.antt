@@ -14,7 +14,6 @@ use Rattle.qk_words.specs.Given.{number_given, IsAimGiven, Gives, AreSettings, H
 use Rattle.qk_words.specs.Options.{Text, option_text, flag_text}
 use Rattle.qk_words.specs.Parts.{Part, given, is_given, number}
 use Rattle.qk_words.specs.SettingsData.{SettingsData, AimData, whole, replayed, generated}
-use Rattle.qk_words.specs.Matches.{AreMatches}
 use Rattle.qk_words.proofs.Matched.{matched}
 use Rattle.qk_words.proofs.ValueLaws.{none_some, some_eq}
 

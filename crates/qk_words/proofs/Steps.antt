@@ -1,8 +1,7 @@
 -- What each part does to the walk of the command over the words.
-use Rattle.std.proofs.Common.{◌≡◌, ◌∙◌, ◌==◌, ℕ, Bool, true, false, not, List, [], ◌∷◌, ◌++◌, ◌&&◌, ◌||◌, refl, sym, ap, subst, Option, None, Some, map, codes, if◌then◌else◌, arith, rules}
-use Rattle.std.specs.List.{list_all}
-use Rattle.clap.specs.Walk.{Row, Rule, Text, Walk, Held, Waiting, idle, option, has_row, settled_rows, walked}
-use Rattle.clap.specs.Takes.{settle_passes, turn_passes, walk_passes}
+use Rattle.std.proofs.Common.{◌≡◌, ◌==◌, ℕ, Bool, true, false, not, List, [], ◌∷◌, ◌++◌, ◌&&◌, ◌||◌, refl, ap, Option, None, Some, codes}
+use Rattle.clap.specs.Walk.{Row, Text, Walk, Held, idle, option, has_row, settled_rows, walked}
+use Rattle.clap.specs.Takes.{settle_passes, turn_passes}
 use Rattle.clap.specs.Simple.{Shape, built}
 use Rattle.clap.specs.Values.{reading_of}
 use Rattle.clap.specs.declared.builder.value_parser.Reading.{Reading}

@@ -1,17 +1,17 @@
 -- The command takes accepted words, and its matches are what the parts give.
-use Rattle.std.proofs.Common.{◌≡◌, ◌∙◌, ◌==◌, ℕ, Bool, true, false, not, List, [], ◌∷◌, ◌++◌, ◌&&◌, ◌||◌, refl, sym, ap, subst, Option, None, Some, map, option_map, fold, cond, codes, if◌then◌else◌, arith, true≢false, rules}
-use Rattle.std.specs.List.{list_all, list_any, find}
+use Rattle.std.proofs.Common.{◌≡◌, ◌∙◌, Bool, true, false, not, List, [], ◌∷◌, ◌++◌, ◌||◌, refl, sym, ap, subst, None, Some, map, option_map, fold, cond, if◌then◌else◌}
+use Rattle.std.specs.List.{list_all, find}
 use Rattle.std.specs.Prelude.{option_and_then, slice_get}
 use Rattle.std.specs.Str.{bytes_eq}
-use Rattle.clap.specs.Walk.{Row, Rule, Text, Walk, Held, has_row, settled, settled_rows, walked, with_default, default_rows, with_values, more_values, first_of, reading_by, nothing_held, rows_after}
-use Rattle.clap.specs.Takes.{settle_passes, turn_passes, walk_passes, takes, level_passes}
+use Rattle.clap.specs.Walk.{Row, Rule, Text, has_row, with_default, default_rows, more_values, first_of, reading_by, nothing_held}
+use Rattle.clap.specs.Takes.{takes, level_passes}
 use Rattle.clap.specs.Simple.{matches_of}
 use Rattle.clap.specs.declared.parser.matches.ValueSource.TheVariants.{DefaultValue}
 use Rattle.clap.proofs.TakesLemmas.{leaf_takes}
 use Rattle.qk_words.specs.Accepted.{IsSpelling, IsAccepted}
 use Rattle.qk_words.specs.Parts.{Part, key_of, value_of, given}
 use Rattle.qk_words.specs.QuickerCommand.{quicker}
-use Rattle.qk_words.proofs.Rows.{at_new, both, not_true, or_false}
+use Rattle.qk_words.proofs.Rows.{at_new, both, not_true}
 use Rattle.qk_words.proofs.Steps.{shape, at, row}
 use Rattle.qk_words.proofs.ClapWalk.{Walks, walk_parts, are_new}
 

@@ -1,10 +1,8 @@
 -- The values that fit their options.
-use Rattle.std.proofs.Common.{◌≡◌, ◌∙◌, ℕ, ◌^◌, ◌-◌, lit<, ◌<◌, ◌≤◌, ◌&&◌, Bool, true, false, List, Option, Some, None, nat_le, nat_lt, length, refl, sym, ap, subst, true≢false, arith, if◌then◌else◌, unwrap_or}
-use Rattle.std.proofs.lemmas.Bool.{and_parts, lt-leb, ltb-false, ltb-true, leb-true, cases_Bool}
+use Rattle.std.proofs.Common.{◌≡◌, ◌∙◌, ℕ, ◌^◌, ◌-◌, lit<, ◌<◌, ◌≤◌, ◌&&◌, true, List, Option, Some, None, nat_le, refl, sym, ap, subst, arith, unwrap_or}
+use Rattle.std.proofs.lemmas.Bool.{and_parts, leb-true}
 use Rattle.std.specs.Option.{option_map_or}
 use Rattle.std.specs.Str.{all_ascii_digits}
-use Rattle.std.specs.Str.Parse.{digits_value}
-use Rattle.qk_report.specs.Numerals.{number_of}
 use Rattle.qk_words.specs.declared.options.OptionName.{OptionName}
 use Rattle.qk_words.specs.declared.options.OptionName.TheVariants.{Seed, Success, Ratio, MaxSize, Fuel, Workers, Window, Shrinks, Replay, Generate}
 use Rattle.qk_words.specs.Options.{range_of, IsBetween, IsTaken}
@@ -18,25 +16,6 @@ some_eq x y e = ap (λ o. unwrap_or o x) e
 
 pub number_is_digits : (text : List ℕ) → is_number text ≡ true → all_ascii_digits text ≡ true
 number_is_digits text h = (and_parts _ _ (and_parts _ _ h).1).1
-
-and_nothing : (a b c : Bool) → c ≡ false → false ≡ (a && (b && c))
-and_nothing true true c e = sym e
-and_nothing true false c e = refl
-and_nothing false b c e = refl
-
-pub none_beyond : (least greatest : ℕ) (text : List ℕ) → greatest < 2 ^ 64 → None ≡ number_of text → false ≡ is_number_within least greatest text
-none_beyond least greatest text small e = and_nothing _ _ _ (lt-leb (number text) greatest (by (nat_lt (number text) (2 ^ 64)) refl e))
-  where
-    by : (b : Bool) → nat_lt (number text) (2 ^ 64) ≡ b → None ≡ (if b then Some (number text) else None) → greatest < number text
-    by true h k = absurd (none_some (number text) k)
-    by false h k = let wide = ltb-false _ _ h in omega (arith, wide, small)
-
-pub some_is : (n : ℕ) (text : List ℕ) → Some n ≡ number_of text → n ≡ number text
-some_is n text e = by (nat_lt (number text) (2 ^ 64)) e
-  where
-    by : (b : Bool) → Some n ≡ (if b then Some (number text) else None) → n ≡ number text
-    by true k = some_eq n (number text) k
-    by false k = absurd (none_some n (sym k))
 
 within_parts : (least greatest : ℕ) (v : List ℕ) → is_number_within least greatest v ≡ true → (is_number v ≡ true) × ((least ≤ number v) × (number v ≤ greatest))
 within_parts least greatest v h =

@@ -11,13 +11,13 @@ use Rattle.qk_words.specs.declared.options.OptionName.TheVariants.{Seed, Success
 use Rattle.qk_words.specs.declared.options.FlagName.{FlagName}
 use Rattle.qk_words.specs.declared.options.FlagName.TheVariants.{Greedy, Work}
 use Rattle.qk_words.specs.declared.walk.State.{State}
-use Rattle.qk_words.specs.Accepted.{is_one, IsSpelling, IsAccepted}
+use Rattle.qk_words.specs.Accepted.{is_one, IsAccepted}
 use Rattle.qk_words.specs.Options.{Text, option_text, flag_text}
-use Rattle.qk_words.specs.Parts.{Part, split, joined, flag, file, words_of, key_of, spelled, is_part, is_plain, is_new, are_once, fits}
-use Rattle.qk_words.specs.Walk.{strip, after_name, option_named, option_of, first_named, loop_options, other_options, or_else, flag_of, option_place, flag_place, has, marked, with_value, step_file, step_flag, step_option, step_part, step_by, step, ends_well, is_good, nothing}
+use Rattle.qk_words.specs.Parts.{Part, split, joined, flag, file, words_of, spelled, is_part, is_plain, is_new, are_once, fits}
+use Rattle.qk_words.specs.Walk.{strip, after_name, option_named, option_of, first_named, loop_options, other_options, or_else, flag_of, option_place, flag_place, has, marked, with_value, step_flag, step_option, step_part, step_by, step, ends_well, is_good, nothing}
 use Rattle.qk_words.proofs.Rows.{both, not_true}
 use Rattle.qk_words.proofs.ValueLaws.{none_some, some_eq}
-use Rattle.qk_words.proofs.KeyLaws.{Key, an_option, a_flag, the_file, key, place_of, split_read, joined_read, flag_unread, flag_read, mark_length, part_has, is_there, there_after}
+use Rattle.qk_words.proofs.KeyLaws.{an_option, a_flag, the_file, key, place_of, split_read, joined_read, flag_unread, flag_read, mark_length, part_has, is_there, there_after}
 
 abbrev mark : Part → State → State
 mark p s = marked (place_of (key p)) s

@@ -1,5 +1,5 @@
 -- Which words are accepted.
-use Rattle.std.specs.Prelude.{◌≡◌, Bool, true, false, not, ◌||◌, List, codes, if◌then◌else◌}
+use Rattle.std.specs.Prelude.{◌≡◌, Bool, true, not, ◌||◌, List, codes, if◌then◌else◌}
 use Rattle.std.specs.List.{list_all}
 use Rattle.qk_words.specs.declared.options.OptionName.TheVariants.{Replay, Generate}
 use Rattle.qk_words.specs.Options.{Text, option_text}

@@ -1,5 +1,5 @@
 -- The settings that accepted words give.
-use Rattle.std.specs.Prelude.{◌≡◌, ℕ, List, Option, Some, None, codes}
+use Rattle.std.specs.Prelude.{◌≡◌, ℕ, List, Some, None, codes}
 use Rattle.std.specs.Option.{option_map_or}
 use Rattle.qk_report.specs.Token.{TokenData}
 use Rattle.qk_report.specs.TokenWords.{IsTokenOf}

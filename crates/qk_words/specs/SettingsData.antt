@@ -1,5 +1,5 @@
 -- Settings as plain data.
-use Rattle.std.specs.Prelude.{ℕ, ◌≤◌, ◌<◌, ◌^◌, Bool, List}
+use Rattle.std.specs.Prelude.{ℕ, ◌≤◌, ◌<◌, ◌^◌, Bool}
 use Rattle.qk_report.specs.Token.{TokenData}
 use Rattle.qk_report.specs.TokenWords.{IsTokenInRange}
 use Rattle.qk_words.specs.declared.settings.Aim.{Aim}

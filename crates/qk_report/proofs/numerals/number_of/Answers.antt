@@ -1,4 +1,4 @@
-use Rattle.std.proofs.Common.{rules, ◌≡◌, ◌<◌, ◌≤◌, drop, length, sym, ap, arith, ◌∙◌, []}
+use Rattle.std.proofs.Common.{sym, ap, arith, ◌∙◌}
 use Rattle.std.proofs.lemmas.List.{drop_all}
 use Rattle.std.specs.Str.Parse.{digits_value_after}
 use Rattle.qk_report.proofs.DigitLaws.{wide_is_none, fits_whole}

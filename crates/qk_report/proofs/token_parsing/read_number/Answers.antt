@@ -1,4 +1,4 @@
-use Rattle.std.proofs.Common.{◌≡◌, ◌∙◌, ap, true}
+use Rattle.std.proofs.Common.{◌∙◌, ap}
 use Rattle.std.specs.Str.{all_ascii_digits}
 use Rattle.qk_report.proofs.NumberReading.{front_digits}
 use Rattle.qk_report.proofs.token_parsing.read_number.Goals as goal

@@ -1,4 +1,4 @@
-use Rattle.std.proofs.Common.{◌≡◌, ◌∙◌, ◌-◌, ◌<◌, ◌≤◌, length, sym, arith, rules}
+use Rattle.std.proofs.Common.{◌∙◌, sym, arith}
 use Rattle.std.proofs.lemmas.Bool.{eqb-true, eqb-false}
 use Rattle.qk_report.proofs.PathReading.{path_goes_on, path_ends, no_path, no_more, no_room}
 use Rattle.qk_report.proofs.token_parsing.read_numbers.Goals as goal

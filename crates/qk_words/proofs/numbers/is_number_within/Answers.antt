@@ -1,4 +1,4 @@
-use Rattle.std.proofs.Common.{◌∙◌, sym}
+use Rattle.std.proofs.Common.{sym}
 use Rattle.qk_words.proofs.ValueLaws.{number_is_digits}
 use Rattle.qk_words.proofs.numbers.is_number_within.Goals as goal
 

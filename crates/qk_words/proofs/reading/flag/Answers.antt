@@ -1,4 +1,4 @@
-use Rattle.std.proofs.Common.{◌≡◌, ◌∙◌, ap, Bool, true, false, Some, codes, if◌then◌else◌}
+use Rattle.std.proofs.Common.{◌≡◌, ◌∙◌, ap, true, false, Some, codes, if◌then◌else◌}
 use Rattle.clap.specs.Words.{found_of, rows_of, one_text}
 use Rattle.clap.specs.Walk.{one_of}
 use Rattle.clap.proofs.WalkLemmas.{one_text-rows}

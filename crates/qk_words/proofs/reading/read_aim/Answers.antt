@@ -1,4 +1,4 @@
-use Rattle.std.proofs.Common.{◌≡◌, ◌∙◌, sym, subst}
+use Rattle.std.proofs.Common.{◌∙◌, sym, subst}
 use Rattle.std.proofs.lemmas.Result.{IfOk-weaker}
 use Rattle.qk_words.specs.declared.options.OptionName.TheVariants.{Replay}
 use Rattle.qk_words.specs.Given.{IsAimGiven}

@@ -1,8 +1,8 @@
-use Rattle.std.proofs.Common.{◌≡◌, refl, sym, subst, map}
+use Rattle.std.proofs.Common.{refl, sym, subst, map}
 use Rattle.std.specs.String.{string_bytes}
 use Rattle.clap.specs.Words.{found_of, rows_of}
 use Rattle.qk_words.specs.Accepted.{IsAccepted}
-use Rattle.qk_words.specs.Matches.{AreMatches, HasMatches}
+use Rattle.qk_words.specs.Matches.{AreMatches}
 use Rattle.qk_words.proofs.GivenLaws.{same_error}
 use Rattle.qk_words.proofs.Matched.{matched}
 use Rattle.qk_words.proofs.reading.read_words.Goals as goal
