@@ -3,10 +3,14 @@ pub mod Counted
 pub mod FailureView
 pub mod Given
 pub mod Lines
+pub mod Numerals
 pub mod PropertyBlock
 pub mod RowsView
 pub mod TableLines
 pub mod Tables
 pub mod Token
+pub mod TokenReader
+pub mod TokenView
+pub mod TokenWords
 pub mod ToldView
 pub mod WantedView

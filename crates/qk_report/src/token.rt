@@ -4,6 +4,7 @@ ghost use Rattle.qk_report.specs.Block.{token_of};
 ghost use Rattle.qk_report.specs.FailureView.{failure_behind};
 ghost use Rattle.qk_report.specs.Lines.{path_line, replay_line};
 ghost use Rattle.qk_report.specs.Token.{dotted, path_text, token_text};
+ghost use Rattle.qk_report.specs.TokenView.{parts_in};
 
 use crate::failure::FailureRef;
 use crate::texts::{put, put_named, put_number};
@@ -50,23 +51,47 @@ pub(crate) fn put_replay_line(
     ensures { OnOk result (text.new.items ≡ text.old.items ++ replay_line (token_of number (failure_behind failure.entry))) }
 {
     put(text, "replay: ")?;
-    put_token(alloc, text, number, failure)?;
+    put_token(alloc, text, &parts_of(number, failure))?;
     put(text, "\n")
 }
 
-fn put_token(
+/// The fields of a token.
+#[derive(Clone, Copy)]
+pub(crate) struct TokenParts<'a> {
+    pub property: u32,
+    pub seed: u64,
+    pub attempt: u64,
+    pub size: u32,
+    pub fuel: u32,
+    pub path: &'a [u64],
+}
+
+fn parts_of<'a>(number: u32, failure: FailureRef<'a>) -> TokenParts<'a>
+    ensures { parts_in result ≡ token_of number (failure_behind failure.entry) }
+{
+    TokenParts {
+        property: number,
+        seed: failure.seed,
+        attempt: failure.attempt,
+        size: failure.size,
+        fuel: failure.fuel,
+        path: failure.path,
+    }
+}
+
+/// Adds the text of a token.
+pub(crate) fn put_token(
     alloc: Global,
     text: &mut Bytes,
-    number: u32,
-    failure: FailureRef<'_>,
+    parts: &TokenParts<'_>,
 ) -> Result<(), Memory>
-    ensures { OnOk result (text.new.items ≡ text.old.items ++ token_text (token_of number (failure_behind failure.entry))) }
+    ensures { OnOk result (text.new.items ≡ text.old.items ++ token_text (parts_in parts.now)) }
 {
-    put_named(alloc, text, "q1:", number as u64)?;
-    put_named(alloc, text, ":", failure.seed)?;
-    put_named(alloc, text, ":", failure.attempt)?;
-    put_named(alloc, text, ":", failure.size as u64)?;
-    put_named(alloc, text, ":", failure.fuel as u64)?;
+    put_named(alloc, text, "q1:", parts.property as u64)?;
+    put_named(alloc, text, ":", parts.seed)?;
+    put_named(alloc, text, ":", parts.attempt)?;
+    put_named(alloc, text, ":", parts.size as u64)?;
+    put_named(alloc, text, ":", parts.fuel as u64)?;
     put(text, ":")?;
-    put_path(alloc, text, failure.path)
+    put_path(alloc, text, parts.path)
 }

@@ -1,0 +1,11 @@
+pub mod Rows
+pub mod Steps
+pub mod ClapWalk
+pub mod Taken
+pub mod FlagTexts
+pub mod Matched
+pub mod ValueLaws
+pub mod KeyLaws
+pub mod WalkLaws
+pub mod GivenLaws
+pub mod OneAnswer

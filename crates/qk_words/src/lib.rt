@@ -1,0 +1,18 @@
+//! The words of a call: which are accepted, and the settings that they give.
+#![tactic(auto)]
+
+mod command;
+mod laws;
+mod numbers;
+mod options;
+mod reading;
+mod settings;
+#[cfg(test)]
+mod tests;
+mod walk;
+
+pub use command::read_accepted;
+pub use laws::words_have_one_answer;
+pub use options::{FlagName, OptionName};
+pub use reading::read_words;
+pub use settings::{Aim, Settings, WordsFault};
