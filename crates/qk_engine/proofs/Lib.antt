@@ -1,4 +1,2 @@
-pub mod Covers
 pub mod ProgramLaws
 pub mod Replies
-pub mod SequentialSteps

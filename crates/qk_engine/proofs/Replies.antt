@@ -1,104 +1,131 @@
 -- What the front of a file says of the whole, and what a reply tells.
-use Rattle.std.proofs.Common.{◌≡◌, ◌⊎◌, ℕ, ◌+◌, Bool, true, false, nat_eq, if◌then◌else◌, Ok, ◌<◌, List, [], ◌∷◌, ◌++◌, Option, Some, None, take, length, arith, refl, sym, ap, ◌∙◌, subst, inl, inr}
+use Rattle.std.proofs.Common.{◌≡◌, ◌⊎◌, ℕ, ◌+◌, ◌<◌, ◌∙◌, Bool, true, false, nat_eq, if◌then◌else◌, Ok, List, [], ◌∷◌, Option, Some, None, take, length, slice_get, arith, refl, sym, ap, subst, inl, inr}
 use Rattle.std.proofs.lemmas.Bool.{cases_lt, lt-ltb}
 use Rattle.std.proofs.lemmas.List.{take_all, length-take-le}
 use Rattle.std.specs.Result.{result_err}
+use Rattle.qk_base.specs.declared.place.Refusal.{Refusal}
 use Rattle.qk_base.specs.declared.status.Status.{Status}
 use Rattle.qk_base.specs.declared.status.Status.TheVariants as status
+use Rattle.qk_command.specs.Drawing.{DrawnValues}
 use Rattle.qk_core.specs.Program.{ProgramData}
+use Rattle.qk_core.specs.Properties.{PropertyData}
+use Rattle.qk_property.specs.Settings.{ReportSettings}
+use Rattle.qk_report.specs.Token.{TokenData}
 use Rattle.qk_syntax.specs.Places.{start}
 use Rattle.qk_syntax.specs.PlainTrees.{PlainTrees}
 use Rattle.qk_syntax.specs.Spelling.{Spells}
 use Rattle.qk_syntax.specs.TextFault.{text_fault, fault}
 use Rattle.qk_syntax.proofs.TextRead.{spelled_has_no_fault, one_spelling}
 use Rattle.qk_types.specs.Elaboration.{elaborated}
-use Rattle.qk_engine.specs.Program.{is_built, how_many, is_failed, is_gave_up}
-use Rattle.qk_engine.specs.Reply.{FileReplies, TreesReply, ProgramReply, replies_to, tells, IsReply, IsRun}
+use Rattle.qk_words.specs.SettingsData.{SettingsData, AimData, whole, replayed, generated}
+use Rattle.qk_engine.specs.Generated.{generated_file}
+use Rattle.qk_engine.specs.Program.{how_many, is_failed, is_gave_up, status_of}
+use Rattle.qk_engine.specs.Reading.{IsLoaded}
+use Rattle.qk_engine.specs.Replay.{TokenReply, property_reply, point_reply, point_of}
+use Rattle.qk_engine.specs.Settings.{settings_told}
+use Rattle.qk_engine.specs.Reply.{IsFault, IsProgram, FileReply, ReportReply, GeneratedReply, program_reply, file_run, ReplyOf, AimNames, AimTells, IsReply, IsRun, IsWellFormed}
 
 -- a file that is too long has that fault, whatever its bytes are
 long_is_refused : (bytes : List ℕ) → 1048576 < length bytes → text_fault bytes ≡ Some (fault 1 start)
 long_is_refused bytes long = rw (lt-ltb 1048576 (length bytes) long) refl
 
--- what is said of the front that was loaded holds of the whole file
-pub front_says : (bytes : List ℕ) (s : Status) (text : List ℕ) → FileReplies (take 1048577 bytes) s text → FileReplies bytes s text
-front_says bytes s text said = elim (cases_lt (length bytes) 1048577) as (λ _. FileReplies bytes s text) [
-  | inl less ↦ subst (λ (b : List ℕ). FileReplies b s text) (take_all 1048577 bytes (omega (arith, less))) said
-  | inr long ↦
-      let front : length (take 1048577 bytes) ≡ 1048577 = length-take-le 1048577 bytes long in
-      elim said as (λ _. FileReplies bytes s text) [
-        | inl refused ↦ inl (refused.0, long_is_refused bytes (omega (arith, long)) ∙ sym (long_is_refused (take 1048577 bytes) (omega (arith, front))) ∙ refused.1, refused.2)
-        | inr read ↦ let short = read.1.short in absurd (omega (arith, short, front))
-      ]
+pub program_is_short : (bytes : List ℕ) (c : ProgramData) → IsProgram bytes c → length bytes < 1048577
+program_is_short bytes c program = let short = program.1.short in omega (arith, short)
+
+-- the fault of the front of a long file is that of the file
+long_fault : (bytes : List ℕ) (r : Refusal) → 1048576 < length bytes → length (take 1048577 bytes) ≡ 1048577 → IsFault (take 1048577 bytes) r → IsFault bytes r
+long_fault bytes r long front said = elim said as (λ _. IsFault bytes r) [
+  | inl e ↦ inl (long_is_refused bytes long ∙ sym (long_is_refused (take 1048577 bytes) (omega (arith, front))) ∙ e)
+  | inr trees ↦ let short = trees.1.short in absurd (omega (arith, short, front))
 ]
 
--- a reply that tells of a run is that to a file that was read whole
-pub run_is_of_trees : (bytes : List ℕ) (s : Status) (text : List ℕ) → IsRun s → FileReplies bytes s text → length bytes < 1048577
-run_is_of_trees bytes s text run said = elim said as (λ _. length bytes < 1048577) [
-  | inl refused ↦ elim run as (λ _. length bytes < 1048577) [ inl e ↦ let both = sym e ∙ refused.2.0 in cc | inr e ↦ let both = sym e ∙ refused.2.0 in cc ]
-  | inr read ↦ let short = read.1.short in omega (arith, short)
-]
+module _ (answers : ProgramData → Status → List ℕ → Type 0) where
+  -- what is said of the front that was loaded holds of the whole file
+  pub front_says : (bytes : List ℕ) (s : Status) (text : List ℕ) → FileReply answers (take 1048577 bytes) s text → FileReply answers bytes s text
+  front_says bytes s text said = elim (cases_lt (length bytes) 1048577) as (λ _. FileReply answers bytes s text) [
+    | inl less ↦ subst (λ (b : List ℕ). FileReply answers b s text) (take_all 1048577 bytes (omega (arith, less))) said
+    | inr long ↦
+        let front : length (take 1048577 bytes) ≡ 1048577 = length-take-le 1048577 bytes long in
+        elim said as (λ _. FileReply answers bytes s text) [
+          | inl refused ↦ inl (refused.0, long_fault bytes refused.0 (omega (arith, long)) front refused.1, refused.2)
+          | inr program ↦ let short = program_is_short (take 1048577 bytes) program.0 program.1 in absurd (omega (arith, short, front))
+        ]
+  ]
+
+  -- a reply that tells of a run is that to a program
+  pub run_is_of_program : (bytes : List ℕ) (s : Status) (text : List ℕ) → IsRun s → FileReply answers bytes s text → length bytes < 1048577
+  run_is_of_program bytes s text run said = elim said as (λ _. length bytes < 1048577) [
+    | inl refused ↦ elim run as (λ _. length bytes < 1048577) [ inl e ↦ let both = sym e ∙ refused.2.0 in cc | inr e ↦ let both = sym e ∙ refused.2.0 in cc ]
+    | inr program ↦ program_is_short bytes program.0 program.1
+  ]
+
+  -- a well-formed file has no fault
+  pub program_is_answered : (bytes : List ℕ) (s : Status) (text : List ℕ) (c : ProgramData) → IsProgram bytes c → FileReply answers bytes s text → (d : ProgramData) × answers d s text
+  program_is_answered bytes s text c program said = elim said as (λ _. (d : ProgramData) × answers d s text) [
+    | inl refused ↦ absurd (no_fault refused.0 refused.1)
+    | inr other ↦ (other.0, other.2)
+  ]
+    where
+      no_fault : (r : Refusal) → IsFault bytes r → ⊥
+      no_fault r said = elim said as (λ _. ⊥) [
+        | inl e ↦ let both = sym (spelled_has_no_fault bytes program.0 program.1) ∙ e in cc
+        | inr trees ↦
+            let same : trees.0 ≡ program.0 = one_spelling bytes trees.0 program.0 trees.1 program.1 in
+            let both = sym (ap result_err (ap elaborated same ∙ program.2)) ∙ trees.2 in cc
+      ]
 
 run_or_not : (b : Bool) → IsRun (if b then status.AllPassed else status.SomeFailed)
 run_or_not true = inl refl
 run_or_not false = inr refl
 
--- a program whose report can be made is run
-program_is_run : (c : ProgramData) (s : Status) (text : List ℕ) → is_built c ≡ true → ProgramReply c s text → IsRun s
-program_is_run c s text built said = elim said as (λ _. IsRun s) [
-  | inl run ↦ subst IsRun (sym run.1) (run_or_not (nat_eq (how_many is_failed c + how_many is_gave_up c) 0))
-  | inr refused ↦ absurd (let both = sym built ∙ refused.0 in cc)
+run_is_reply : (s : Status) → IsRun s → IsReply s
+run_is_reply s run = elim run as (λ _. IsReply s) [ inl e ↦ subst IsReply (sym e) tt | inr e ↦ subst IsReply (sym e) tt ]
+
+status_is_run : (s : ReportSettings) (c : ProgramData) → IsRun (status_of s c)
+status_is_run s c = run_or_not (nat_eq (how_many is_failed s c + how_many is_gave_up s c) 0)
+
+point_is_reply : (c : ProgramData) (p : PropertyData) (t : TokenData) (point : Option DrawnValues) (s : Status) (text : List ℕ) → point_reply c p t point s text → IsReply s
+point_is_reply c p t None s text said = subst IsReply (sym said.0) tt
+point_is_reply c p t (Some point) s text said = subst IsReply (sym said.0) tt
+
+property_is_reply : (c : ProgramData) (t : TokenData) (p : Option PropertyData) (s : Status) (text : List ℕ) → property_reply c t p s text → IsReply s
+property_is_reply c t None s text said = subst IsReply (sym said.0) tt
+property_is_reply c t (Some p) s text said = point_is_reply c p t (point_of c p t) s text said
+
+program_is_reply : (aim : AimData) (r : ReportSettings) (c : ProgramData) (s : Status) (text : List ℕ) → program_reply aim r c s text → IsReply s
+program_is_reply (whole name) r c s text said = run_is_reply s (subst IsRun (sym said.0) (status_is_run r c))
+program_is_reply (replayed token name) r c s text said = property_is_reply c token (slice_get c.properties token.property) s text said
+program_is_reply (generated n) r c s text said = run_is_reply s (subst IsRun (sym said.0) (status_is_run r c))
+
+pub file_is_reply : (aim : AimData) (r : ReportSettings) (bytes : List ℕ) (s : Status) (text : List ℕ) → FileReply (program_reply aim r) bytes s text → IsReply s
+file_is_reply aim r bytes s text said = elim said as (λ _. IsReply s) [
+  | inl refused ↦ subst IsReply (sym refused.2.0) tt
+  | inr program ↦ program_is_reply aim r program.0 s text program.2
 ]
 
--- trees of such a program are run
-trees_are_run : (trees : PlainTrees) (c : ProgramData) (s : Status) (text : List ℕ) → elaborated trees ≡ Ok c → is_built c ≡ true → TreesReply trees s text → IsRun s
-trees_are_run trees c s text good built said = elim said as (λ _. IsRun s) [
-  | inl refused ↦ absurd (let both = sym (ap result_err good) ∙ refused.1 in cc)
-  | inr program ↦
-      let same : program.0 ≡ c = let both = sym program.1 ∙ good in cc in
-      program_is_run c s text built (subst (λ (d : ProgramData). ProgramReply d s text) same program.2)
-]
+-- what was loaded is replied to as the whole file
+pub loaded_says : (answers : ProgramData → Status → List ℕ → Type 0) (aim : AimData) (bytes loaded : List ℕ) (s : Status) (text : List ℕ) → IsLoaded aim bytes loaded → FileReply answers loaded s text → FileReply answers (file_run aim bytes) s text
+loaded_says answers (whole name) bytes loaded s text is_loaded said = front_says answers bytes s text (subst (λ (b : List ℕ). FileReply answers b s text) is_loaded said)
+loaded_says answers (replayed token name) bytes loaded s text is_loaded said = front_says answers bytes s text (subst (λ (b : List ℕ). FileReply answers b s text) is_loaded said)
+loaded_says answers (generated n) bytes loaded s text is_loaded said = subst (λ (b : List ℕ). FileReply answers b s text) is_loaded said
 
--- a file that spells trees of such a program is run
-pub built_is_run : (bytes : List ℕ) (trees : PlainTrees) (c : ProgramData) (s : Status) (text : List ℕ) → Spells bytes trees → elaborated trees ≡ Ok c → is_built c ≡ true → FileReplies bytes s text → IsRun s
-built_is_run bytes trees c s text spells good built said = elim said as (λ _. IsRun s) [
-  | inl refused ↦ absurd (let both = sym (spelled_has_no_fault bytes trees spells) ∙ refused.1 in cc)
-  | inr read ↦ trees_are_run trees c s text good built (subst (λ (us : PlainTrees). TreesReply us s text) (one_spelling bytes read.0 trees read.1 spells) read.2)
-]
+-- an aim names one file, which is the one that is run
+pub named_is_run : (aim : AimData) (file bytes : List ℕ) → AimNames aim file → file_run aim bytes ≡ bytes
+named_is_run (whole name) file bytes names = refl
+named_is_run (replayed token name) file bytes names = refl
+named_is_run (generated n) file bytes names = absurd names
 
-program_is_replied : (c : ProgramData) (s : Status) (text : List ℕ) → ProgramReply c s text → IsReply s
-program_is_replied c s text said = elim said as (λ _. IsReply s) [
-  | inl run ↦ subst IsReply (sym run.1) (replied_or_not (nat_eq (how_many is_failed c + how_many is_gave_up c) 0))
-  | inr refused ↦ subst IsReply (sym refused.1.0) tt
-]
+pub names_one : (aim : AimData) (one other : List ℕ) → AimNames aim one → AimNames aim other → one ≡ other
+names_one (whole name) one other a b = sym a ∙ b
+names_one (replayed token name) one other a b = sym a ∙ b
+names_one (generated n) one other a b = absurd a
+
+-- the report of a well-formed file tells of a run
+pub report_is_run : (d : SettingsData) (file bytes : List ℕ) (s : Status) (text : List ℕ) → d.aim ≡ whole file → IsWellFormed bytes → ReplyOf d bytes s text → IsRun s
+report_is_run d file bytes s text aim program said =
+    of_aim d.aim aim said
   where
-    replied_or_not : (b : Bool) → IsReply (if b then status.AllPassed else status.SomeFailed)
-    replied_or_not true = tt
-    replied_or_not false = tt
-
-trees_are_replied : (trees : PlainTrees) (s : Status) (text : List ℕ) → TreesReply trees s text → IsReply s
-trees_are_replied trees s text said = elim said as (λ _. IsReply s) [
-  | inl refused ↦ subst IsReply (sym refused.2.0) tt
-  | inr program ↦ program_is_replied program.0 s text program.2
-]
-
-pub file_is_reply : (bytes : List ℕ) (s : Status) (text : List ℕ) → FileReplies bytes s text → IsReply s
-file_is_reply bytes s text said = elim said as (λ _. IsReply s) [
-  | inl refused ↦ subst IsReply (sym refused.2.0) tt
-  | inr read ↦ trees_are_replied read.0 s text read.2
-]
-
--- what was loaded of the file that the words name is replied to as the whole file
-pub loaded_says : (holds : List ℕ → Option (List ℕ)) (name : List ℕ) (named : Option (List ℕ)) (bytes loaded : List ℕ) (s : Status) (text : List ℕ)
-    → Some name ≡ named → tells holds named bytes → (holds name ≡ Some bytes → loaded ≡ take 1048577 bytes) → FileReplies loaded s text → replies_to named bytes s text
-loaded_says holds name None bytes loaded s text e told front said = cc
-loaded_says holds name (Some n) bytes loaded s text e told front said =
-    let same : name ≡ n = cc in
-    front_says bytes s text (subst (λ (b : List ℕ). FileReplies b s text) (front (ap holds same ∙ told)) said)
-
--- the reply to words that name a file of such a program tells of a run
-pub named_is_run : (holds : List ℕ → Option (List ℕ)) (named : Option (List ℕ)) (name bytes : List ℕ) (trees : PlainTrees) (c : ProgramData) (s : Status) (text : List ℕ)
-    → named ≡ Some name → holds name ≡ Some bytes → Spells bytes trees → elaborated trees ≡ Ok c → is_built c ≡ true → ((b : List ℕ) → tells holds named b → replies_to named b s text) → IsRun s
-named_is_run holds None name bytes trees c s text named held spells good built said = cc
-named_is_run holds (Some n) name bytes trees c s text named held spells good built said =
-    let same : n ≡ name = cc in
-    built_is_run bytes trees c s text spells good built (said bytes (ap holds same ∙ held))
+    of_aim : (a : AimData) → a ≡ whole file → FileReply (program_reply a (settings_told d)) (file_run a bytes) s text → IsRun s
+    of_aim (whole name) e said = let answered = program_is_answered (ReportReply (settings_told d)) bytes s text program.0 program.1 said in subst IsRun (sym answered.1.0) (status_is_run (settings_told d) answered.0)
+    of_aim (replayed token name) e said = absurd (cc)
+    of_aim (generated n) e said = absurd (cc)

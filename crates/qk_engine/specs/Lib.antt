@@ -1,5 +1,8 @@
-pub mod FinishView
+pub mod Generated
+pub mod Laws
 pub mod Program
+pub mod Reading
+pub mod Replay
 pub mod Reply
-pub mod Running
-pub mod Words
+pub mod Settings
+pub mod Totals

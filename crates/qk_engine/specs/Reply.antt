@@ -1,16 +1,22 @@
 -- What a run answers: a status and a text for the words and the bytes of their file.
-use Rattle.std.specs.Prelude.{◌≡◌, ◌⊎◌, ℕ, true, false, List, [], ◌∷◌, ◌++◌, Option, Some, None, Ok, codes, ⊤}
+use Rattle.std.specs.Prelude.{◌≡◌, ◌⊎◌, ℕ, List, ◌++◌, Option, Some, Ok, codes, ⊤}
 use Rattle.qk_base.specs.declared.place.Refusal.{Refusal}
 use Rattle.qk_base.specs.declared.status.Status.{Status}
 use Rattle.qk_base.specs.declared.status.Status.TheVariants as status
 use Rattle.qk_core.specs.Program.{ProgramData}
+use Rattle.qk_property.specs.Settings.{ReportSettings}
 use Rattle.qk_report.specs.Lines.{line, named}
 use Rattle.qk_syntax.specs.PlainTrees.{PlainTrees}
 use Rattle.qk_syntax.specs.Spelling.{Spells}
 use Rattle.qk_syntax.specs.TextFault.{text_fault}
 use Rattle.qk_types.specs.Elaboration.{elaborated, type_fault}
-use Rattle.qk_engine.specs.Program.{is_built, report, status_of}
-use Rattle.qk_engine.specs.Words.{file_named}
+use Rattle.qk_words.specs.Accepted.{IsAccepted}
+use Rattle.qk_words.specs.Given.{AreSettings, HasBadToken}
+use Rattle.qk_words.specs.SettingsData.{SettingsData, AimData, whole, replayed, generated}
+use Rattle.qk_engine.specs.Generated.{generated_file, generated_text}
+use Rattle.qk_engine.specs.Program.{IsReport, status_of}
+use Rattle.qk_engine.specs.Replay.{TokenReply, bad_token}
+use Rattle.qk_engine.specs.Settings.{settings_told}
 
 -- words that are not accepted give the usage line
 abbrev pub usage : List ℕ
@@ -20,46 +26,70 @@ usage = line (codes "usage: quicker [options] FILE")
 abbrev pub refusal : Refusal → List ℕ
 refusal r = line (named (codes "refused ") r.code ++ named (codes " at ") r.place.line ++ named (codes ":") r.place.column)
 
--- a program whose report can't be made today
-abbrev pub not_built : Refusal
-not_built = record { code = 19; place = record { line = 1; column = 1 } }
+-- the first fault of a file: that of its text, or the first check that does not hold of its trees
+abbrev pub IsFault : List ℕ → Refusal → Type 0
+IsFault bytes r = (text_fault bytes ≡ Some r) ⊎ ((trees : PlainTrees) × Spells bytes trees × (type_fault trees ≡ Some r))
 
-abbrev pub Refuses : Refusal → Status → List ℕ → Type 0
-Refuses r s text = (s ≡ status.Refused) × (text ≡ refusal r)
+-- the program of a file
+abbrev pub IsProgram : List ℕ → ProgramData → Type 0
+IsProgram bytes c = (trees : PlainTrees) × Spells bytes trees × (elaborated trees ≡ Ok c)
 
--- the answers to a program: its report, or a refusal where that can't be made today
-abbrev pub ProgramReply : ProgramData → Status → List ℕ → Type 0
-ProgramReply c s text =
-    ((is_built c ≡ true) × (s ≡ status_of c) × (text ≡ report c))
-    ⊎ ((is_built c ≡ false) × Refuses not_built s text)
+-- the answers to a file: the refusal of its fault, or those to its program
+abbrev pub FileReply : (ProgramData → Status → List ℕ → Type 0) → List ℕ → Status → List ℕ → Type 0
+FileReply answers bytes s text = ((r : Refusal) × IsFault bytes r × (s ≡ status.Refused) × (text ≡ refusal r)) ⊎ ((c : ProgramData) × IsProgram bytes c × answers c s text)
 
--- the answers to the trees of a file: the refusal of the first check that does not hold of them, or those to a program
-abbrev pub TreesReply : PlainTrees → Status → List ℕ → Type 0
-TreesReply trees s text =
-    ((r : Refusal) × (type_fault trees ≡ Some r) × Refuses r s text)
-    ⊎ ((c : ProgramData) × (elaborated trees ≡ Ok c) × ProgramReply c s text)
+abbrev pub ReportReply : ReportSettings → ProgramData → Status → List ℕ → Type 0
+ReportReply s c status text = (status ≡ status_of s c) × IsReport s c text
 
--- the answers to a file: the refusal of its fault, or those to the trees that it spells
-abbrev pub FileReplies : List ℕ → Status → List ℕ → Type 0
-FileReplies bytes s text =
-    ((r : Refusal) × (text_fault bytes ≡ Some r) × Refuses r s text)
-    ⊎ ((trees : PlainTrees) × Spells bytes trees × TreesReply trees s text)
+abbrev pub GeneratedReply : ReportSettings → ℕ → ProgramData → Status → List ℕ → Type 0
+GeneratedReply s n c status text = (status ≡ status_of s c) × (text ≡ generated_text s n c)
 
-abbrev pub replies_to : Option (List ℕ) → List ℕ → Status → List ℕ → Type 0
-replies_to None bytes s text = (s ≡ status.Usage) × (text ≡ usage)
-replies_to (Some name) bytes s text = FileReplies bytes s text
+-- the answers to a program, by what the call is aimed at
+abbrev pub program_reply : AimData → ReportSettings → ProgramData → Status → List ℕ → Type 0
+program_reply (whole name) s = ReportReply s
+program_reply (replayed token name) s = TokenReply token
+program_reply (generated n) s = GeneratedReply s n
+
+-- the file that is run, where the file that is named, if any, has those bytes
+abbrev pub file_run : AimData → List ℕ → List ℕ
+file_run (whole name) bytes = bytes
+file_run (replayed token name) bytes = bytes
+file_run (generated n) bytes = generated_file n
+
+-- the answers for settings and the bytes of the file that they name, if they name one
+abbrev pub ReplyOf : SettingsData → List ℕ → Status → List ℕ → Type 0
+ReplyOf d bytes status text = FileReply (program_reply d.aim (settings_told d)) (file_run d.aim bytes) status text
 
 -- the status and the text are those of the words and the bytes of the file that they name, if they name one
 abbrev pub Replies : List (List ℕ) → List ℕ → Status → List ℕ → Type 0
-Replies words bytes s text = replies_to (file_named words) bytes s text
+Replies words bytes s text =
+    ((IsAccepted words → ⊥) × (s ≡ status.Usage) × (text ≡ usage))
+    ⊎ ((HasBadToken words × (s ≡ status.Usage) × (text ≡ bad_token)) ⊎ ((d : SettingsData) × AreSettings words d × ReplyOf d bytes s text))
+
+-- the aim names that file
+abbrev pub AimNames : AimData → List ℕ → Type 0
+AimNames (whole name) file = name ≡ file
+AimNames (replayed token name) file = name ≡ file
+AimNames (generated n) file = ⊥
+
+-- these are the bytes of the file that the aim names, if it names one
+abbrev pub AimTells : (List ℕ → Option (List ℕ)) → AimData → List ℕ → Type 0
+AimTells holds aim bytes = (file : List ℕ) → AimNames aim file → holds file ≡ Some bytes
+
+-- the words name that file
+abbrev pub Names : List (List ℕ) → List ℕ → Type 0
+Names words file = (d : SettingsData) × AreSettings words d × AimNames d.aim file
 
 -- these are the bytes of the file that the words name, if they name one
-abbrev pub tells : (List ℕ → Option (List ℕ)) → Option (List ℕ) → List ℕ → Type 0
-tells holds None bytes = ⊤
-tells holds (Some name) bytes = holds name ≡ Some bytes
-
 abbrev pub Tells : (List ℕ → Option (List ℕ)) → List (List ℕ) → List ℕ → Type 0
-Tells holds words bytes = tells holds (file_named words) bytes
+Tells holds words bytes = (file : List ℕ) → Names words file → holds file ≡ Some bytes
+
+-- the words want the report of that file
+abbrev pub Reports : List (List ℕ) → List ℕ → Type 0
+Reports words file = (d : SettingsData) × AreSettings words d × (d.aim ≡ whole file)
+
+abbrev pub IsWellFormed : List ℕ → Type 0
+IsWellFormed bytes = (c : ProgramData) × IsProgram bytes c
 
 -- the answers with a text
 abbrev pub IsReply : Status → Type 0
@@ -71,6 +101,6 @@ IsReply status.ReadFault = ⊥
 IsReply status.WriteFault = ⊥
 IsReply status.Memory = ⊥
 
--- the answers that tell that every property was run
+-- the answers that tell that every property was run, or that a failure was replayed
 abbrev pub IsRun : Status → Type 0
 IsRun s = (s ≡ status.AllPassed) ⊎ (s ≡ status.SomeFailed)

@@ -1,12 +1,12 @@
 //! Programs at fault, each with the first fault in the written order of checks, worked out by hand; and two without fault.
 
-use crate::tests::{CALM, answers};
+use crate::tests::{CALM, answers, written};
+use qk_base::OpenGate;
 use std::process::Abort;
 use std::test::Fail;
 use std::thread::Threads;
 
-// A row is the code and the place of its refusal, and a file. A program with marks or a word on how a binder shrinks is not built
-// yet; each other without fault passes.
+// A row is the code and the place of its refusal, and a file; or that it passes, or has no fault at least.
 const WHOLE: &str = "28 at 1:1 | 
 23 at 1:1 | (prop a)
 20 at 1:1 | 5
@@ -53,11 +53,11 @@ const WHOLE: &str = "28 at 1:1 |
 22 at 1:38 | (prop p (forall ((x int (shrink-with f))) (check true)))
 20 at 1:38 | (prop p (forall ((x int (shrink-with p))) (check true)))
 22 at 1:38 | (prop p (forall ((x int (shrink-with neg))) (check true)))
-19 at 1:1 | (prop p (forall ((x int no-shrink)) (check true)))
+passed | (prop p (forall ((x int no-shrink)) (check true)))
 passed | (prop p (forall ((x int) (y (choose 0 x))) (check true)))
 22 at 1:31 | (prop p (forall ((x (choose 0 y)) (y int)) (check true)))
 24 at 1:38 | (prop p (forall ((x int (shrink-with f))) (check true))) (fun f ((x Int)) Int 0)
-19 at 1:1 | (prop p (forall ((x int (shrink-with f))) (check true))) (fun f ((x Int)) (List Int) (nil Int))
+passed | (prop p (forall ((x int (shrink-with f))) (check true))) (fun f ((x Int)) (List Int) (nil Int))
 20 at 1:27 | (prop p (forall ((x int)) 5))
 20 at 1:27 | (prop p (forall ((x int)) (foo)))
 23 at 1:9 | (prop p (forall ((x int))))
@@ -74,11 +74,11 @@ passed | (prop p (forall ((x int) (y (choose 0 x))) (check true)))
 22 at 1:39 | (prop p (forall ((x int)) (check-runs y)))
 24 at 1:39 | (prop p (forall ((x int)) (check-runs x)))
 20 at 1:47 | (prop p (forall ((x int)) (check true) (label 5)))
-19 at 1:1 | (prop p (forall ((x int)) (check true) (label true)))
+no fault | (prop p (forall ((x int)) (check true) (label true)))
 23 at 1:9 | (prop p (forall ((x int)) (given true) (given true) (given true) (given true) (given true) (given true) (given true) (given true) (given true) (given true) (given true) (given true) (given true) (given true) (given true) (given true) (given true) (check true)))
 23 at 1:9 | (prop p (forall ((x int)) (check true) (label a) (label a) (label a) (label a) (label a) (label a) (label a) (label a) (label a) (label a) (label a) (label a) (label a) (label a) (label a) (label a) (label a)))
 23 at 1:9 | (prop p (forall ((x int)) (given true)))
-19 at 1:1 | (prop p (forall ((x int)) (given (< 0 x)) (check (= x x)) (collect x) (tabulate a x) (cover 0 (< x 5) b)))
+no fault | (prop p (forall ((x int)) (given (< 0 x)) (check (= x x)) (collect x) (tabulate a x) (cover 0 (< x 5) b)))
 ";
 
 // Rows of files that end with a property without fault.
@@ -246,7 +246,7 @@ const REALISTIC: &str = "; ordered trees and a queue of two lists
   (system (Pair (List Int) (List Int)) (pair (nil Int) (nil Int)) step post))
 (prop queue-ok (forall ((cs (commands queue))) (check-runs cs)))";
 
-const NO_FAULT: &str = "19 at 1:1 | ";
+const NO_FAULT: &str = "no fault | ";
 
 // Runs each row's file, ended so.
 fn answers_rows<R: Threads + Sync + Abort + AllocGlobal>(
@@ -271,8 +271,17 @@ fn answers_file<R: Threads + Sync + Abort + AllocGlobal>(
     if answer == "passed" {
         return answers(rt, ["f"].as_slice(), file.as_str(), &CALM, 0, PASSED);
     }
+    if answer == "no fault" {
+        return runs_file(rt, file.as_str());
+    }
     let text = format!(in rt.alloc(); "refused {answer}\n")?;
     answers(rt, ["f"].as_slice(), file.as_str(), &CALM, 3, text.as_str())
+}
+
+fn runs_file<R: Threads + Sync + Abort + AllocGlobal>(rt: &R, file: &str) -> Result<(), Fail> {
+    let said = written(rt, "f", file, &OpenGate)?;
+    assert!(rt; said.as_str().ends_with("status 0"), "{said}");
+    Ok(())
 }
 
 #[test]

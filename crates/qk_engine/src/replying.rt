@@ -1,28 +1,28 @@
-//! The reply to a file.
-ghost use Rattle.std.specs.Prelude.{◌≡◌, ◌≤◌, ◌+◌, IfOk, length, nat_eq, if◌then◌else◌};
+//! The reply to the settings of a call and the bytes that it runs.
+ghost use Rattle.std.specs.Prelude.{◌≡◌, ◌+◌, ◌++◌, IfOk, OnOk, length, nat_eq, if◌then◌else◌};
 ghost use Rattle.qk_base.specs.declared.status.Status.TheVariants as status;
-ghost use Rattle.qk_engine.specs.Program.{report, status_of as status_of_program};
-ghost use Rattle.qk_engine.specs.Reply.{FileReplies, TreesReply, ProgramReply, Refuses, usage};
-ghost use Rattle.qk_syntax.specs.View.{views};
-ghost use Rattle.qk_types.specs.Elaboration.{elaborated};
+ghost use Rattle.qk_engine.specs.Program.{status_of as status_of_program, totals_line};
+ghost use Rattle.qk_engine.specs.Reply.{FileReply, GeneratedReply, ReportReply, program_reply, refusal as refusal_of, usage};
+ghost use Rattle.qk_engine.specs.Settings.{settings_told};
+ghost use Rattle.qk_engine.specs.Totals.{AreTotals};
+ghost use Rattle.qk_property.specs.Settings.{AreInRange, report_settings};
+ghost use Rattle.qk_words.specs.SettingsData.{settings_in, AreInRange as AreSettingsInRange};
 
 use crate::blocks::put_blocks;
-use crate::built::is_built;
 use crate::made::Made;
+use crate::reading::read_program;
 use crate::refusing::put_refusal;
+use crate::replaying::token_reply;
+use crate::settings::run_settings;
+use crate::summing::sum_properties;
 use crate::totals::Totals;
-use qk_base::{Bytes, Fault, Memory, Place, Refusal, Seq, Status};
+use qk_base::{Bytes, Gate, Memory, Refusal, Status};
 use qk_core::Core;
-use qk_report::{put, put_last_line};
-use qk_syntax::{Tree, read};
-use qk_types::elaborate;
+use qk_property::RunSettings;
+use qk_report::{put, put_last_line, put_named};
+use qk_words::{Aim, Settings};
 use std::alloc::Global;
-
-/// The refusal of a program whose report can't be made today.
-const NOT_BUILT: Refusal = Refusal {
-    code: 19,
-    place: Place { line: 1, column: 1 },
-};
+use std::thread::Threads;
 
 /// The reply to words that are not accepted.
 pub fn usage_reply(alloc: Global) -> Result<Made, Memory>
@@ -36,54 +36,26 @@ pub fn usage_reply(alloc: Global) -> Result<Made, Memory>
     })
 }
 
-/// The reply to the bytes of a file.
-pub fn file_reply(alloc: Global, bytes: &[u8]) -> Result<Made, Memory>
-    ensures { IfOk result (λ made. FileReplies bytes.now made.status made.text.items) }
+/// The reply to the bytes that are run.
+pub fn bytes_reply<R: Threads + Sync, G: Gate>(
+    rt: &R,
+    alloc: Global,
+    gate: &G,
+    settings: &Settings<'_>,
+    bytes: &[u8],
+) -> Result<Made, Memory>
+    requires { AreSettingsInRange (settings_in settings.now) }
+    ensures { IfOk result (λ made. FileReply (program_reply (settings_in settings.now).aim (settings_told (settings_in settings.now))) bytes.now made.status made.text.items) }
 {
-    match read(alloc, bytes) {
-        Ok(trees) => trees_reply(alloc, &trees),
-        Err(Fault::Memory) => Err(Memory),
-        Err(Fault::Refused(refusal)) => refusal_reply(alloc, refusal),
-    }
-}
-
-// The reply to the trees of a file.
-fn trees_reply(alloc: Global, trees: &Seq<Tree>) -> Result<Made, Memory>
-    requires { length trees.now.items ≤ 1000 }
-    ensures { IfOk result (λ made. TreesReply (views trees.now.items) made.status made.text.items) }
-{
-    match checked(alloc, trees)? {
+    match read_program(alloc, bytes)? {
         Err(refusal) => refusal_reply(alloc, refusal),
-        Ok(core) => program_reply(alloc, &core),
-    }
-}
-
-// The program that the trees stand for, or the first check that does not hold of them.
-fn checked(alloc: Global, trees: &Seq<Tree>) -> Result<Result<Core, Refusal>, Memory>
-    requires { length trees.now.items ≤ 1000 }
-    ensures { IfOk result (λ checked. elaborated (views trees.now.items) ≡ checked) }
-{
-    match elaborate(alloc, trees) {
-        Ok(core) => Ok(Ok(core)),
-        Err(Fault::Memory) => Err(Memory),
-        Err(Fault::Refused(refusal)) => Ok(Err(refusal)),
-    }
-}
-
-// The reply to a program.
-fn program_reply(alloc: Global, core: &Core) -> Result<Made, Memory>
-    ensures { IfOk result (λ made. ProgramReply core.now made.status made.text.items) }
-{
-    if is_built(core) {
-        run_reply(alloc, core)
-    } else {
-        refusal_reply(alloc, NOT_BUILT)
+        Ok(core) => reply_to_program(rt, alloc, gate, settings, &core),
     }
 }
 
 // The reply to a file that is refused.
 fn refusal_reply(alloc: Global, refusal: Refusal) -> Result<Made, Memory>
-    ensures { IfOk result (λ made. Refuses refusal made.status made.text.items) }
+    ensures { IfOk result (λ made. (made.status ≡ status.Refused) × (made.text.items ≡ refusal_of refusal)) }
 {
     let mut text = Bytes::make(alloc);
     put_refusal(alloc, &mut text, refusal)?;
@@ -93,24 +65,88 @@ fn refusal_reply(alloc: Global, refusal: Refusal) -> Result<Made, Memory>
     })
 }
 
+// The reply to a program.
+fn reply_to_program<R: Threads + Sync, G: Gate>(
+    rt: &R,
+    alloc: Global,
+    gate: &G,
+    settings: &Settings<'_>,
+    core: &Core,
+) -> Result<Made, Memory>
+    requires { AreSettingsInRange (settings_in settings.now) }
+    ensures { IfOk result (λ made. program_reply (settings_in settings.now).aim (settings_told (settings_in settings.now)) core.now made.status made.text.items) }
+{
+    let run = run_settings(settings);
+    match &settings.aim {
+        Aim::File(_) => report_reply(rt, alloc, gate, core, &run),
+        Aim::Replay(token, _) => token_reply(alloc, core, token),
+        Aim::Generate(count) => generated_reply(rt, alloc, gate, core, &run, *count),
+    }
+}
+
 // The report of a program.
-fn run_reply(alloc: Global, core: &Core) -> Result<Made, Memory>
-    ensures { IfOk result (λ made. (made.status ≡ status_of_program core.now) × (made.text.items ≡ report core.now)) }
+fn report_reply<R: Threads + Sync, G: Gate>(
+    rt: &R,
+    alloc: Global,
+    gate: &G,
+    core: &Core,
+    settings: &RunSettings,
+) -> Result<Made, Memory>
+    requires { AreInRange settings.now }
+    ensures { IfOk result (λ made. ReportReply (report_settings settings.now) core.now made.status made.text.items) }
 {
     let mut text = Bytes::make(alloc);
-    let totals = put_blocks(alloc, &mut text, core)?;
-    put_last_line(
-        alloc,
-        &mut text,
-        core.properties() as u64,
-        totals.passed,
-        totals.failed,
-        totals.gave_up,
-    )?;
+    let totals = put_blocks(rt, alloc, gate, &mut text, core, settings)?;
+    put_totals(alloc, &mut text, core, totals, settings)?;
     Ok(Made {
         status: status_of(totals),
         text,
     })
+}
+
+// What is told of a generated file.
+fn generated_reply<R: Threads + Sync, G: Gate>(
+    rt: &R,
+    alloc: Global,
+    gate: &G,
+    core: &Core,
+    settings: &RunSettings,
+    count: u32,
+) -> Result<Made, Memory>
+    requires { AreInRange settings.now }
+    ensures { IfOk result (λ made. GeneratedReply (report_settings settings.now) count core.now made.status made.text.items) }
+{
+    let summed = sum_properties(rt, alloc, gate, core, settings)?;
+    let mut text = Bytes::make(alloc);
+    put_named(alloc, &mut text, "generated: ", count as u64)?;
+    put(&mut text, "\n")?;
+    put_named(alloc, &mut text, "attempts: ", summed.attempts)?;
+    put(&mut text, "\n")?;
+    put_totals(alloc, &mut text, core, summed.totals, settings)?;
+    Ok(Made {
+        status: status_of(summed.totals),
+        text,
+    })
+}
+
+// Adds the last line.
+fn put_totals(
+    alloc: Global,
+    text: &mut Bytes,
+    core: &Core,
+    totals: Totals,
+    _settings: &RunSettings,
+) -> Result<(), Memory>
+    requires { AreTotals (report_settings _settings.now) core.now totals }
+    ensures { OnOk result (text.new.items ≡ text.old.items ++ totals_line (report_settings _settings.now) core.now) }
+{
+    let properties = core.properties() as u64;
+    let Totals {
+        passed,
+        failed,
+        gave_up,
+    } = totals;
+    put_last_line(alloc, text, properties, passed, failed, gave_up)
 }
 
 fn status_of(totals: Totals) -> Status

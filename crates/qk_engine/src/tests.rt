@@ -1,10 +1,16 @@
 //! Whole runs over files and a report in memory.
 
 use crate::run;
-use qk_base::{MemLibrary, MemSink, OpenGate};
+use qk_base::{Gate, MemLibrary, MemSink, OpenGate};
 use std::process::Abort;
 use std::test::Fail;
 use std::thread::Threads;
+
+mod generated;
+mod marks;
+mod replays;
+mod shrinks;
+mod workers;
 
 // a file of 52 bytes, and its report of 177 bytes
 const FAILING: &str = "(prop a (forall ((x (choose 0 0))) (check (< x 0))))";
@@ -48,7 +54,7 @@ pub fn answers<R: Threads + Sync + Abort + AllocGlobal>(
     if let Some(call) = setting.read_fails {
         library.fail_at(call)?;
     }
-    let mut sink = MemSink::make(alloc, setting.most.max(1), 1000)?;
+    let mut sink = MemSink::make(alloc, setting.most.max(1), 20_000)?;
     if let Some(call) = setting.write_fails {
         sink.fail_at(call)?;
     }
@@ -66,6 +72,40 @@ pub fn answers<R: Threads + Sync + Abort + AllocGlobal>(
     );
     assert_eq!(rt; answer.number(), status, "{file}");
     assert_eq!(rt; sink.bytes(), text.as_bytes(), "{file}");
+    Ok(())
+}
+
+// What is written for words with blanks between them, with the status behind it.
+pub fn written<R: Threads + Sync + Abort + AllocGlobal, G: Gate>(
+    rt: &R,
+    words: &str,
+    file: &str,
+    gate: &G,
+) -> Result<String, Fail> {
+    let alloc = rt.alloc();
+    let mut library = MemLibrary::make(alloc, 4096);
+    library.add(alloc, "f", file.as_bytes())?;
+    let mut sink = MemSink::make(alloc, 4096, 20_000)?;
+    let mut owned = Vec::new(alloc);
+    for word in words.split(' ') {
+        owned.push(String::from_str(alloc, word)?)?;
+    }
+    let answer = run(rt, alloc, owned.as_slice(), &mut library, &mut sink, gate);
+    let text = str::from_utf8(sink.bytes())?;
+    Ok(format!(in alloc; "{text}status {}", answer.number())?)
+}
+
+// Compares what is written for the words with a text and a status.
+pub fn says<R: Threads + Sync + Abort + AllocGlobal>(
+    rt: &R,
+    words: &str,
+    file: &str,
+    status: u8,
+    text: &str,
+) -> Result<(), Fail> {
+    let said = written(rt, words, file, &OpenGate)?;
+    let wanted = format!(in rt.alloc(); "{text}status {status}")?;
+    assert_eq!(rt; said.as_str(), wanted.as_str(), "{words} {file}");
     Ok(())
 }
 
@@ -130,59 +170,6 @@ fn files(rt: HostRuntime) -> Result<(), Fail> {
     Ok(())
 }
 
-// A property `a` that fails at its first attempt, for that cause, with that value.
-const FAILURE: &str = "a: failed after 1 test, 0 discarded
-cause: CAUSE
-attempt: 0, size 0
-shrinks: 0, tried 0
-VALUEpath: -
-replay: q1:0:0:0:0:100000:-
-properties: 1, passed 0, failed 1, gave up 0
-";
-
-// The functions and the generator of programs, a binder, what is checked, the cause and the value line.
-const FAILURES: [(&str, &str, &str); 4] = [
-    (
-        "(gen g () Int (g)) (prop a (forall ((x (g))) (check true)))",
-        "out of fuel while drawing",
-        "",
-    ),
-    (
-        "(fun spin ((n Int)) Int (spin n)) (prop a (forall ((x (choose 0 0))) (check (= (spin x) 0))))",
-        "out of fuel",
-        "  x = 0\n",
-    ),
-    (
-        "(fun grow ((xs (List Int))) (List Int) (grow (append xs xs))) (prop a (forall ((x (choose 0 0))) (check (= (length (grow (cons x (nil Int)))) 0))))",
-        "value too large",
-        "  x = 0\n",
-    ),
-    (
-        "(prop a (forall ((x (vector 3 (choose 3 3)))) (check (= 1 (div 1 (mod (length x) 3))))))",
-        "division by zero",
-        "  x = [3, 3, 3]\n",
-    ),
-];
-
-fn fails_first<R: Threads + Sync + Abort + AllocGlobal>(
-    rt: &R,
-    file: &str,
-    cause: &str,
-    value: &str,
-) -> Result<(), Fail> {
-    let with_cause = FAILURE.replace(rt.alloc(), "CAUSE", cause)?;
-    let text = with_cause.as_str().replace(rt.alloc(), "VALUE", value)?;
-    answers(rt, ["f"].as_slice(), file, &CALM, 1, text.as_str())
-}
-
-#[test]
-fn failures(rt: HostRuntime) -> Result<(), Fail> {
-    for (file, cause, value) in FAILURES {
-        fails_first(&rt, file, cause, value)?;
-    }
-    Ok(())
-}
-
 // Properties that pass or give up, and several in one file.
 const RUNS: [(&str, u8, &str); 5] = [
     (
@@ -227,7 +214,7 @@ const SEVERAL_REPORT: &str = "a: passed 100 tests, 0 discarded
 b: failed after 3 tests, 0 discarded
 cause: false
 attempt: 2, size 2
-shrinks: 0, tried 0
+shrinks: 0, tried 2
   x = 2
 path: -
 replay: q1:1:0:2:2:100000:-
@@ -235,10 +222,10 @@ c: passed 100 tests, 0 discarded
 d: failed after 1 test, 0 discarded
 cause: false
 attempt: 0, size 0
-shrinks: 0, tried 0
-  x = (1, true)
-path: -
-replay: q1:3:0:0:0:100000:-
+shrinks: 1, tried 3
+  x = (1, false)
+path: 1
+replay: q1:3:0:0:0:100000:1
 properties: 4, passed 2, failed 2, gave up 0
 ";
 

@@ -1,28 +1,23 @@
 //! The top call.
-ghost use Rattle.std.specs.Prelude.{◌≡◌, ◌⊎◌, ℕ, true, List, [], Some, None, Ok, take, map, string_bytes, IfOk, IfErr, IsErrOf};
+ghost use Rattle.std.specs.Prelude.{◌≡◌, ◌⊎◌, ℕ, List, [], Some, Ok, take, map, string_bytes, IfOk, IfErr, IsErrOf};
 ghost use Rattle.qk_base.specs.Faults.{HasRisen};
 ghost use Rattle.qk_base.specs.Gains.{Gains};
 ghost use Rattle.qk_base.specs.declared.status.Status.{Status as Answer};
-ghost use Rattle.qk_core.specs.Program.{ProgramData};
-ghost use Rattle.qk_engine.specs.Program.{is_built};
-ghost use Rattle.qk_engine.specs.Reply.{Replies, Tells, IsReply, IsRun};
-ghost use Rattle.qk_engine.specs.Words.{file_named};
-ghost use Rattle.qk_syntax.specs.PlainTrees.{PlainTrees};
-ghost use Rattle.qk_syntax.specs.Spelling.{Spells};
-ghost use Rattle.qk_types.specs.Elaboration.{elaborated};
+ghost use Rattle.qk_engine.specs.Reply.{AimNames, AimTells, IsReply, IsRun, Names, Replies, ReplyOf, IsWellFormed, Reports, Tells};
+ghost use Rattle.qk_words.specs.Given.{AreSettings};
+ghost use Rattle.qk_words.specs.SettingsData.{settings_in, AreInRange};
 
+use crate::loading::load_aim;
 use crate::made::Made;
-use crate::replying::{file_reply, usage_reply};
-use crate::words::file_of;
-use qk_base::{Gate, Library, Sink, Status, load, store};
+use crate::replaying::refused_token;
+use crate::replying::{bytes_reply, usage_reply};
+use qk_base::{Gate, Library, Sink, Status, store};
+use qk_words::{Settings, WordsFault, read_words};
 use std::alloc::Global;
 use std::thread::Threads;
 
-/// The longest file, and one byte more.
-const MOST: usize = 1_048_577;
-
 /// The whole run: reads the words, loads the file, runs its properties and writes the report. The words are those after the
-/// program's name.
+/// program's name. The reply does not look at the number of workers; see `workers_decide_nothing`.
 pub fn run<R: Threads + Sync, L: Library, K: Sink, G: Gate>(
     rt: &R,
     alloc: Global,
@@ -38,22 +33,22 @@ pub fn run<R: Threads + Sync, L: Library, K: Sink, G: Gate>(
     // The sink has gained nothing.
     ensures silent { (result ≡ Status.ReadFault) ⊎ (result ≡ Status.Memory) → Gains (K.written sink.old) (K.written sink.new) [] }
     ensures read_fault { result ≡ Status.ReadFault
-        → (name : List ℕ) × (file_named (map string_bytes words.now) ≡ Some name) × HasRisen (L.faults library.old name) (L.faults library.new name) }
+        → (file : List ℕ) × Names (map string_bytes words.now) file × HasRisen (L.faults library.old file) (L.faults library.new file) }
 
     // The sink has gained the front of a reply.
     ensures write_fault { result ≡ Status.WriteFault → HasRisen (K.faults sink.old) (K.faults sink.new) }
     ensures front { result ≡ Status.WriteFault → (bytes : List ℕ) → Tells (L.holds library.old) (map string_bytes words.now) bytes
         → (status : Answer) × (text : List ℕ) × (n : ℕ) × IsReply status × Replies (map string_bytes words.now) bytes status text × Gains (K.written sink.old) (K.written sink.new) (take n text) }
 
-    // The file was read to its end, and is not touched where the words name none.
-    ensures read_whole { IsRun result → (name bytes : List ℕ) → file_named (map string_bytes words.now) ≡ Some name → L.holds library.old name ≡ Some bytes → L.left library.new ≡ Some [] }
-    ensures unread { file_named (map string_bytes words.now) ≡ None → library.new ≡ library.old }
+    // The file was read to its end, and the library is as it was where the words name none.
+    ensures read_whole { IsRun result → (file bytes : List ℕ) → Names (map string_bytes words.now) file → L.holds library.old file ≡ Some bytes → L.left library.new ≡ Some [] }
+    ensures unread { ((file : List ℕ) → Names (map string_bytes words.now) file → ⊥) → library.new ≡ library.old }
 
     // Where nothing fails, there is a reply, or memory is wanted.
-    ensures answers { ((name : List ℕ) → file_named (map string_bytes words.now) ≡ Some name → HasRisen (L.faults library.old name) (L.faults library.new name) → ⊥)
+    ensures answers { ((file : List ℕ) → Names (map string_bytes words.now) file → HasRisen (L.faults library.old file) (L.faults library.new file) → ⊥)
         → (HasRisen (K.faults sink.old) (K.faults sink.new) → ⊥) → IsReply result ⊎ (result ≡ Status.Memory) }
-    ensures completes { (name bytes : List ℕ) (trees : PlainTrees) (program : ProgramData) → file_named (map string_bytes words.now) ≡ Some name → L.holds library.old name ≡ Some bytes → Spells bytes trees → elaborated trees ≡ Ok program → is_built program ≡ true
-        → (HasRisen (L.faults library.old name) (L.faults library.new name) → ⊥) → (HasRisen (K.faults sink.old) (K.faults sink.new) → ⊥) → IsRun result ⊎ (result ≡ Status.Memory) }
+    ensures completes { (file bytes : List ℕ) → Reports (map string_bytes words.now) file → L.holds library.old file ≡ Some bytes → IsWellFormed bytes
+        → (HasRisen (L.faults library.old file) (L.faults library.new file) → ⊥) → (HasRisen (K.faults sink.old) (K.faults sink.new) → ⊥) → IsRun result ⊎ (result ≡ Status.Memory) }
 {
     match run_into(rt, alloc, words, library, gate) {
         Err(status) => status,
@@ -66,23 +61,45 @@ pub fn run<R: Threads + Sync, L: Library, K: Sink, G: Gate>(
 
 /// The run before writing: the status and the text, or why there is none.
 pub fn run_into<R: Threads + Sync, L: Library, G: Gate>(
-    _rt: &R,
+    rt: &R,
     alloc: Global,
     words: &[String],
     library: &mut L,
-    _gate: &G,
+    gate: &G,
 ) -> Result<Made, Status>
     ensures replies { IfOk result (λ made. IsReply made.status × ((bytes : List ℕ) → Tells (L.holds library.old) (map string_bytes words.now) bytes
         → Replies (map string_bytes words.now) bytes made.status made.text.items)) }
     ensures faults { IfErr result (λ status. (status ≡ Status.ReadFault) ⊎ (status ≡ Status.Memory)) }
     ensures read_fault { IsErrOf result Status.ReadFault
-        → (name : List ℕ) × (file_named (map string_bytes words.now) ≡ Some name) × HasRisen (L.faults library.old name) (L.faults library.new name) }
-    ensures read_whole { IfOk result (λ made. IsRun made.status → (name bytes : List ℕ) → file_named (map string_bytes words.now) ≡ Some name → L.holds library.old name ≡ Some bytes → L.left library.new ≡ Some []) }
-    ensures unread { file_named (map string_bytes words.now) ≡ None → library.new ≡ library.old }
+        → (file : List ℕ) × Names (map string_bytes words.now) file × HasRisen (L.faults library.old file) (L.faults library.new file) }
+    ensures read_whole { IfOk result (λ made. IsRun made.status → (file bytes : List ℕ) → Names (map string_bytes words.now) file → L.holds library.old file ≡ Some bytes → L.left library.new ≡ Some []) }
+    ensures unread { ((file : List ℕ) → Names (map string_bytes words.now) file → ⊥) → library.new ≡ library.old }
 {
-    let Some(file) = file_of(words) else {
-        return Ok(usage_reply(alloc)?);
-    };
-    let bytes = load(alloc, library, file, MOST)?;
-    Ok(file_reply(alloc, bytes.as_slice())?)
+    match read_words(alloc, words) {
+        Ok(settings) => run_with(rt, alloc, &settings, library, gate),
+        Err(WordsFault::Memory) => Err(Status::Memory),
+        Err(WordsFault::NotAccepted) => Ok(usage_reply(alloc)?),
+        Err(WordsFault::BadToken) => Ok(refused_token(alloc, "refused 40\n")?),
+    }
+}
+
+/// The run of settings before writing.
+pub fn run_with<R: Threads + Sync, L: Library, G: Gate>(
+    rt: &R,
+    alloc: Global,
+    settings: &Settings<'_>,
+    library: &mut L,
+    gate: &G,
+) -> Result<Made, Status>
+    requires { AreInRange (settings_in settings.now) }
+    ensures replies { IfOk result (λ made. IsReply made.status × ((bytes : List ℕ) → AimTells (L.holds library.old) (settings_in settings.now).aim bytes
+        → ReplyOf (settings_in settings.now) bytes made.status made.text.items)) }
+    ensures faults { IfErr result (λ status. (status ≡ Status.ReadFault) ⊎ (status ≡ Status.Memory)) }
+    ensures read_fault { IsErrOf result Status.ReadFault
+        → (file : List ℕ) × AimNames (settings_in settings.now).aim file × HasRisen (L.faults library.old file) (L.faults library.new file) }
+    ensures read_whole { IfOk result (λ made. IsRun made.status → (file bytes : List ℕ) → AimNames (settings_in settings.now).aim file → L.holds library.old file ≡ Some bytes → L.left library.new ≡ Some []) }
+    ensures unread { ((file : List ℕ) → AimNames (settings_in settings.now).aim file → ⊥) → library.new ≡ library.old }
+{
+    let bytes = load_aim(alloc, &settings.aim, library)?;
+    Ok(bytes_reply(rt, alloc, gate, settings, bytes.as_slice())?)
 }

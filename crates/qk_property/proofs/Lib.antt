@@ -1,0 +1,6 @@
+pub mod Counting
+pub mod Failures
+pub mod Fitting
+pub mod Generators
+pub mod Stepping
+pub mod Telling

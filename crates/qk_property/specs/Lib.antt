@@ -1,0 +1,10 @@
+pub mod Attempts
+pub mod Blocks
+pub mod Ended
+pub mod PointLaws
+pub mod Points
+pub mod Replayed
+pub mod Running
+pub mod Settings
+pub mod Shrunk
+pub mod Spreads

@@ -1,0 +1,95 @@
+//! The attempts of a property, up to the end of its run.
+ghost use Rattle.std.specs.Prelude.{◌≡◌, ◌<◌, length, map, IfOk};
+ghost use Rattle.qk_core.specs.PropertyView.{view_mark};
+ghost use Rattle.qk_property.specs.Ended.{IsTested};
+ghost use Rattle.qk_property.specs.Running.{limits_of};
+ghost use Rattle.qk_property.specs.Settings.{AreInRange, report_settings};
+ghost use Rattle.qk_report.specs.Tables.{wanted_of};
+
+use crate::settings::RunSettings;
+use crate::trial::PropertyTrial;
+use qk_base::{Gate, Memory};
+use qk_core::{Core, Mark, Property};
+use qk_report::Tables;
+use qk_rounds::{Ended, Work, drive};
+use qk_schedule::{Finish, Limits, QuickCourse, State};
+use std::alloc::Global;
+use std::thread::Threads;
+
+/// How the run of a property ended: the last state, why, the work that it took, and the tables of what was committed.
+#[derive(Drop)]
+pub struct Tested<'c> {
+    pub state: State,
+    pub finish: Finish,
+    pub work: Work,
+    pub tables: Tables<'c>,
+}
+
+/// Runs the attempts of a property of a program. State, finish and tables are those of the sequential run, whatever the window and the
+/// number of workers; the work depends on the window alone.
+pub fn test_property<'c, R: Threads + Sync, G: Gate>(
+    rt: &R,
+    alloc: Global,
+    gate: &G,
+    core: &'c Core,
+    property: &'c Property,
+    settings: &RunSettings,
+) -> Result<Tested<'c>, Memory>
+    requires { AreInRange settings.now }
+    ensures { IfOk result (λ tested. IsTested settings.now core.now property.now tested) }
+{
+    let limits = limits_for(property, settings)?;
+    let course = QuickCourse::make(limits);
+    let mut trial = PropertyTrial::make(alloc, core, property, settings.seed, settings.fuel);
+    let mut tables = Tables::make(alloc, property)?;
+    let Ended {
+        state,
+        finish,
+        work,
+    } = drive(
+        rt,
+        alloc,
+        gate,
+        &course,
+        &mut trial,
+        &mut tables,
+        settings.workers,
+        settings.window,
+    )?;
+    Ok(Tested {
+        state,
+        finish,
+        work,
+        tables,
+    })
+}
+
+// The limits of a property's run.
+fn limits_for(property: &Property, settings: &RunSettings) -> Result<Limits, Memory>
+    ensures { IfOk result (λ limits. limits ≡ limits_of (report_settings settings.now) property.now) }
+{
+    let covers = cover_count(property.marks.as_slice())?;
+    Ok(Limits {
+        success: settings.success,
+        ratio: settings.ratio,
+        max_size: settings.max_size,
+        covers,
+    })
+}
+
+// How many cover clauses there are.
+fn cover_count(marks: &[Mark]) -> Result<u32, Memory>
+    ensures { IfOk result (λ count. count ≡ length (wanted_of (map view_mark marks.now))) }
+{
+    // So many marks have no room in memory.
+    if marks.len() > u32::MAX as usize {
+        return Err(Memory);
+    }
+    let mut count = 0;
+    for mark in marks {
+        if matches!(mark, Mark::Cover(..)) {
+            count += 1;
+        }
+    }
+    Ok(count)
+}
