@@ -1,10 +1,10 @@
 -- Laws of the blocks of a list.
-use Rattle.std.proofs.Common.{◌≡◌, ◌∙◌, ℕ, zero, suc, ◌+◌, ◌*◌, ◌-◌, ◌/◌, ◌^◌, ◌≤◌, ◌<◌, List, [], ◌∷◌, ◌++◌, map, take, drop, length, get_or, refl, sym, ap, arith}
-use Rattle.std.specs.List.{range_with_len, flat_map}
+use Rattle.std.proofs.Common.{◌≡◌, ◌∙◌, ℕ, zero, suc, ◌+◌, ◌*◌, ◌-◌, ◌/◌, ◌≤◌, ◌<◌, List, [], ◌∷◌, ◌++◌, take, drop, length, sym, ap, arith}
+use Rattle.std.specs.List.{flat_map}
 use Rattle.std.proofs.lemmas.List.{length-append, take_all}
 use Rattle.std.proofs.lemmas.List.FromFn.{length-map-range_with_len, get_or-map-range_with_len}
 use Rattle.std.proofs.Math.Nat.{mul-le-mul_left, mul-div-le, div-le_self}
-use Rattle.qk_shrink.specs.Blocks.{blocks, blocks_of_size}
+use Rattle.qk_shrink.specs.Blocks.{blocks_of_size}
 use Rattle.qk_shrink.specs.Halves.{halves}
 use Rattle.qk_shrink.specs.Sought.{sought}
 use Rattle.qk_shrink.specs.declared.blocks.Block.{Block}

@@ -1,5 +1,5 @@
 -- Laws of halves: which is the first, how many they are.
-use Rattle.std.proofs.Common.{◌≡◌, ◌∙◌, ℕ, zero, suc, ◌+◌, ◌*◌, ◌/◌, ◌^◌, ◌≤◌, ◌<◌, List, [], ◌∷◌, length, refl, ap, arith}
+use Rattle.std.proofs.Common.{◌≡◌, ℕ, zero, suc, ◌/◌, ◌^◌, ◌≤◌, ◌<◌, ◌∷◌, length, refl, ap, arith}
 use Rattle.qk_shrink.specs.Halves.{halves, halves_within}
 
 half_less : (n : ℕ) → suc n / 2 ≤ n

@@ -10,7 +10,7 @@ use Rattle.qk_shrink.specs.Sought.{sought, map_sought}
 use Rattle.qk_shrink.specs.declared.blocks.Block.{Block}
 use Rattle.qk_shrink.specs.declared.sought.Sought.{Sought}
 use Rattle.qk_shrink.specs.declared.sought.Sought.TheVariants.{Here, Past}
-use Rattle.qk_shrink.proofs.SoughtLaws.{sought_map, mapped, in_first, past_first}
+use Rattle.qk_shrink.proofs.SoughtLaws.{mapped, in_first, past_first}
 
 pub pair_first : (a b : Data) (firsts seconds : List Data) (k : ℕ) (c : Data) → Here c ≡ sought firsts k → Here (pair c b) ≡ sought (map (λ c. pair c b) firsts ++ map (pair a) seconds) k
 pair_first a b firsts seconds k c h = in_first (map (λ c. pair c b) firsts) (map (pair a) seconds) k (pair c b) (mapped (λ c. pair c b) firsts k (Here c) h)

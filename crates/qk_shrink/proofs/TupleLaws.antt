@@ -1,13 +1,13 @@
 -- The candidates of small values are small, and as many as the values.
-use Rattle.std.proofs.Common.{◌≡◌, ℕ, suc, ◌≤◌, List, [], ◌∷◌, ◌++◌, map, length, refl, ap, arith}
+use Rattle.std.proofs.Common.{◌≡◌, ℕ, suc, List, [], ◌∷◌, map, length, refl, ap, arith}
 use Rattle.std.proofs.lemmas.List.Elements.{All-nil, All-cons, All-append, All-map}
 use Rattle.std.specs.List.{All}
 use Rattle.qk_core.specs.Program.{ProgramData}
 use Rattle.qk_core.specs.Properties.{BinderData}
 use Rattle.qk_core.specs.declared.property.ShrinkBy.{ShrinkBy}
 use Rattle.qk_core.specs.declared.property.ShrinkBy.TheVariants.{Builtin, Function, Nothing}
-use Rattle.qk_value.specs.Data.{Data, Datas, end, more, listed_data}
-use Rattle.qk_value.specs.Measures.{weight, depth, IsSmall}
+use Rattle.qk_value.specs.Data.{Data, listed_data}
+use Rattle.qk_value.specs.Measures.{IsSmall}
 use Rattle.qk_value.specs.Types.{TypeData}
 use Rattle.qk_eval.specs.Answers.{AreSmall}
 use Rattle.qk_eval.specs.Meaning.{Evaluated, result, crash, called}

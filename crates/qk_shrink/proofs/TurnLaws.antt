@@ -1,6 +1,6 @@
 -- One value after another is replaced in its place.
 use Rattle.std.proofs.Common.{◌≡◌, ◌∙◌, ℕ, zero, suc, ◌+◌, ◌<◌, ◌≤◌, min, List, [], ◌∷◌, ◌++◌, map, take, drop, length, get_or, refl, sym, ap, arith}
-use Rattle.std.proofs.lemmas.List.{append_assoc, map-append}
+use Rattle.std.proofs.lemmas.List.{map-append}
 use Rattle.qk_core.specs.Program.{ProgramData}
 use Rattle.qk_core.specs.Properties.{BinderData}
 use Rattle.qk_core.specs.declared.property.ShrinkBy.{ShrinkBy}

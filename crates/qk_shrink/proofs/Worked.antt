@@ -1,5 +1,5 @@
 -- Candidates, worked out by computation.
-use Rattle.std.specs.Prelude.{◌≡◌, ℕ, ℤ, pos, negsuc, neg_ℤ, Bool, true, false, List, [], ◌∷◌, refl, ◌-◌, ◌^◌, length, take, map}
+use Rattle.std.specs.Prelude.{◌≡◌, ℕ, pos, negsuc, neg_ℤ, true, false, List, [], ◌∷◌, refl, ◌-◌, ◌^◌, length, take, map}
 use Rattle.qk_core.specs.GenData.{any_number}
 use Rattle.qk_core.specs.Program.{ProgramData}
 use Rattle.qk_core.specs.Properties.{BinderData, plain}

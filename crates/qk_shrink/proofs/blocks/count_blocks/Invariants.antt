@@ -1,5 +1,5 @@
 -- The blocks so far and those of the sizes that are left make all.
-use Rattle.std.proofs.Common.{◌≡◌, ◌+◌, ◌≤◌, length}
+use Rattle.std.proofs.Common.{◌≡◌, ◌+◌, length}
 use Rattle.qk_shrink.specs.Blocks.{blocks}
 use Rattle.qk_shrink.proofs.BlockLaws.{blocks_from}
 use Rattle.qk_shrink.proofs.blocks.count_blocks.Given as goal

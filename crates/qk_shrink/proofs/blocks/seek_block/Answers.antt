@@ -1,5 +1,5 @@
-use Rattle.std.proofs.Common.{◌∙◌, arith}
-use Rattle.qk_shrink.proofs.BlockLaws.{block_here, block_past, inside}
+use Rattle.std.proofs.Common.{◌∙◌}
+use Rattle.qk_shrink.proofs.BlockLaws.{block_here, block_past}
 use Rattle.qk_shrink.proofs.blocks.seek_block.Goals as goal
 
 pub loop-size-preserved : goal.loop-size-preserved

@@ -1,4 +1,4 @@
-use Rattle.std.proofs.Common.{◌≡◌, ◌∙◌, ◌+◌, ◌-◌, ◌++◌, length, map, take, drop, sym, ap}
+use Rattle.std.proofs.Common.{◌∙◌, ◌+◌, ◌++◌, map, sym, ap}
 use Rattle.std.proofs.lemmas.List.{take-map, drop-map}
 use Rattle.qk_value.specs.View.{view_value}
 use Rattle.qk_shrink.proofs.BlockLaws.{whole_rest}

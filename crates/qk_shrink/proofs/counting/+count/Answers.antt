@@ -1,13 +1,11 @@
 use mir.Syntax.{w64}
 use mir.Val.{SFits}
-use Rattle.std.proofs.Common.{◌≡◌, ◌∙◌, ◌+◌, ◌*◌, ◌≤◌, length, drop, sym, ap, arith, rules}
+use Rattle.std.proofs.Common.{◌∙◌, ◌+◌, length, drop, sym, ap, arith, rules}
 use Rattle.std.proofs.lemmas.Int.{to_z-of_z}
-use Rattle.qk_value.specs.Kinds.{maker_of}
 use Rattle.qk_value.specs.View.{view_type, view_value, view_values}
-use Rattle.qk_shrink.specs.Blocks.{blocks}
-use Rattle.qk_shrink.specs.Candidates.{fields_of, own_parts, value_candidates, items_in_place, parts_in_place}
+use Rattle.qk_shrink.specs.Candidates.{value_candidates, items_in_place}
 use Rattle.qk_shrink.specs.Numbers.{number_candidates}
-use Rattle.qk_shrink.proofs.CountLaws.{length_weights, length_drop, count_int, count_list, count_pair, count_made}
+use Rattle.qk_shrink.proofs.CountLaws.{length_weights, length_drop, count_int, count_list, count_pair}
 use Rattle.qk_shrink.proofs.FormLaws.{int_form, pair_form}
 use Rattle.qk_shrink.proofs.counting.+count.Goals as goal
 

@@ -1,4 +1,4 @@
-use Rattle.std.proofs.Common.{◌≡◌, ◌+◌, ◌≤◌, min, length, arith, ap}
+use Rattle.std.proofs.Common.{length, arith, ap}
 use Rattle.qk_shrink.proofs.PlaceLaws.{own_end}
 use Rattle.qk_shrink.proofs.fields.count_own.Goals as goal
 

@@ -1,4 +1,4 @@
-use Rattle.std.proofs.Common.{◌≡◌, ◌+◌, ◌/◌, ◌<◌, length, arith, ap}
+use Rattle.std.proofs.Common.{◌≡◌, ◌+◌, ◌/◌, length, arith}
 use Rattle.qk_shrink.specs.Halves.{halves}
 use Rattle.qk_shrink.proofs.HalfLaws.{few_halves, halves_more}
 use Rattle.qk_shrink.proofs.numbers.count_halves.Goals as goal

@@ -1,5 +1,4 @@
-use Rattle.std.proofs.Common.{◌≡◌, ◌∙◌, ◌-◌, ◌/◌, ◌≤◌, ℕ, map, length, arith, ap, sym}
-use Rattle.std.proofs.lemmas.Grind.{common_steps}
+use Rattle.std.proofs.Common.{◌∙◌, ◌-◌, ◌/◌, map, arith, ap, sym}
 use Rattle.qk_shrink.specs.Halves.{halves}
 use Rattle.qk_shrink.specs.Sought.{sought}
 use Rattle.qk_shrink.proofs.HalfLaws.{halves_more}

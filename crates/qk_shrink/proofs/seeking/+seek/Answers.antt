@@ -1,13 +1,12 @@
-use Rattle.std.proofs.Common.{◌∙◌, ◌+◌, take, drop, map, sym, ap, arith}
+use Rattle.std.proofs.Common.{◌∙◌, ◌+◌, drop, map, sym, ap, arith}
 use Rattle.qk_value.specs.Data.{pair, made}
 use Rattle.qk_value.specs.Kinds.{maker_of}
 use Rattle.qk_value.specs.View.{view_type, view_value, view_values}
-use Rattle.qk_eval.specs.Parts.{joined}
 use Rattle.qk_shrink.specs.Candidates.{fields_of, own_parts, value_candidates, items_in_place, parts_in_place}
 use Rattle.qk_shrink.specs.Sought.{sought, map_sought}
-use Rattle.qk_shrink.specs.declared.sought.Sought.TheVariants.{Here, Past}
+use Rattle.qk_shrink.specs.declared.sought.Sought.TheVariants.{Here}
 use Rattle.qk_shrink.proofs.FormLaws.{pair_form}
-use Rattle.qk_shrink.proofs.PlaceLaws.{place_here, place_past, items_next, parts_next, items_end, parts_end}
+use Rattle.qk_shrink.proofs.PlaceLaws.{place_here, place_past, items_next, parts_next}
 use Rattle.qk_shrink.proofs.SeekLaws.{pair_first, pair_second, list_first, list_second, made_second}
 use Rattle.qk_shrink.proofs.SoughtLaws.{in_first}
 use Rattle.qk_shrink.proofs.seeking.+seek.Goals as goal

@@ -1,4 +1,4 @@
-use Rattle.std.proofs.Common.{◌≡◌, ◌+◌, ◌≤◌, min, length, map, arith, ap}
+use Rattle.std.proofs.Common.{length, arith, ap}
 use Rattle.qk_shrink.proofs.TurnLaws.{turn_end}
 use Rattle.qk_shrink.proofs.spread.count_all.Goals as goal
 

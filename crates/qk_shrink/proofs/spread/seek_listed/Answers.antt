@@ -1,5 +1,4 @@
-use Rattle.std.proofs.Common.{◌≡◌, ◌∙◌, ◌-◌, ◌<◌, ◌≤◌, length, map, sym, ap, arith}
-use Rattle.std.proofs.lemmas.List.{length-map}
+use Rattle.std.proofs.Common.{◌∙◌, ◌-◌, length, sym, ap, arith}
 use Rattle.qk_value.specs.View.{view_value}
 use Rattle.qk_shrink.specs.declared.sought.Sought.TheVariants.{Here, Past}
 use Rattle.qk_shrink.proofs.SoughtLaws.{sought_here, sought_past, mapped}

@@ -1,4 +1,4 @@
-use Rattle.std.proofs.Common.{◌≡◌, ◌∙◌, List, map, sym, ap}
+use Rattle.std.proofs.Common.{◌∙◌, List, map, sym, ap}
 use Rattle.qk_base.specs.Growing.{Growing}
 use Rattle.qk_value.specs.Data.{Data}
 use Rattle.qk_value.specs.View.{view_value}

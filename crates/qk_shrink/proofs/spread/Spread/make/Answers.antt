@@ -1,4 +1,4 @@
-use Rattle.std.proofs.Common.{◌≡◌, ◌∙◌, length, map, ap}
+use Rattle.std.proofs.Common.{◌∙◌, length, map, ap}
 use Rattle.qk_value.specs.View.{view_value}
 use Rattle.qk_shrink.specs.Spreads.{in_turn, ways_of}
 use Rattle.qk_shrink.specs.SpreadsView.{view_way}
