@@ -1,5 +1,6 @@
-use Rattle.std.proofs.Common.{rules, ◌≡◌, List, ℕ, Some, map, string_bytes, inl, subst, sym}
+use Rattle.std.proofs.Common.{rules, ◌≡◌, List, ℕ, Some, take, map, string_bytes, inl, subst, sym}
 use Rattle.qk_base.specs.Faults.{HasRisen}
+use Rattle.qk_base.specs.Gains.{Gains}
 use Rattle.qk_engine.specs.Reply.{IsReply, IsRun, Names}
 use Rattle.qk_engine.proofs.WordsReplies.{no_fault, reported_is_run, tells_of_settings, wants_names}
 use Rattle.qk_engine.proofs.top.run.Goals as goal
@@ -26,5 +27,11 @@ returns-in-Ok-store-clause-replies g c reply bytes told = (c.in-Ok.made.text.ite
 pub returns-clause-front : goal.returns-clause-front
 returns-clause-front g c fault bytes told =
     let said = c.in-Ok.ensures.replies in
-    let gained = c.store.ensures.err in
-    (c.in-Ok.made.status, c.in-Ok.made.text.items, gained.0, said.0, said.1 bytes told, gained.1)
+    let gained = c.in-Err-store.ensures.err in (
+      c.in-Ok.made.status,
+      c.in-Ok.made.text.items,
+      gained.0,
+      said.0,
+      said.1 bytes told,
+      subst (λ (b : List ℕ). Gains (g.K.Sink.written c.args.sink.now) (g.K.Sink.written c.store.new.sink) (take gained.0 b)) c.as_slice.ensures gained.1,
+    )
