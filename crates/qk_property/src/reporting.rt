@@ -80,7 +80,9 @@ fn block_text<R: Threads + Sync, G: Gate>(
         } => {
             let minimum = last_point(rt, alloc, gate, core, property, settings, attempt, size)?;
             let cause = cause_of_point(alloc, core, property, settings.fuel, &minimum.point)?;
-            told_text(alloc, core, number, property, settings, tested, minimum, cause)
+            told_text(
+                alloc, core, number, property, settings, tested, minimum, cause,
+            )
         }
     }
 }
@@ -130,7 +132,16 @@ fn ended_text(
         tried: None,
         limit_met: false,
     };
-    told_text(alloc, core, number, property, settings, tested, nothing, Cause::False)
+    told_text(
+        alloc,
+        core,
+        number,
+        property,
+        settings,
+        tested,
+        nothing,
+        Cause::False,
+    )
 }
 
 // The block of a property with these last values and their cause.
