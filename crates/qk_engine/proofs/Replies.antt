@@ -129,3 +129,20 @@ report_is_run d file bytes s text aim program said =
     of_aim (whole name) e said = let answered = program_is_answered (ReportReply (settings_told d)) bytes s text program.0 program.1 said in subst IsRun (sym answered.1.0) (status_is_run (settings_told d) answered.0)
     of_aim (replayed token name) e said = absurd (cc)
     of_aim (generated n) e said = absurd (cc)
+
+-- an aim names its own file
+pub whole_names : (aim : AimData) (file : List ℕ) → aim ≡ whole file → AimNames aim file
+whole_names aim file e = subst (λ (a : AimData). AimNames a file) (sym e) refl
+
+pub replayed_names : (aim : AimData) (token : TokenData) (file : List ℕ) → aim ≡ replayed token file → AimNames aim file
+replayed_names aim token file e = subst (λ (a : AimData). AimNames a file) (sym e) refl
+
+-- what is told of one file of an aim is told of all that it names
+pub tells_all : (holds : List ℕ → Option (List ℕ)) (aim : AimData) (file bytes : List ℕ) → AimNames aim file → holds file ≡ Some bytes → AimTells holds aim bytes
+tells_all holds aim file bytes names held = λ other named. ap holds (names_one aim other file named names) ∙ held
+
+-- a run of the file that is named was of a short file
+pub run_is_short : (answers : ProgramData → Status → List ℕ → Type 0) (aim : AimData) (file bytes loaded : List ℕ) (s : Status) (text : List ℕ)
+    → IsRun s → AimNames aim file → IsLoaded aim bytes loaded → FileReply answers loaded s text → length bytes < 1048577
+run_is_short answers aim file bytes loaded s text run names is_loaded said =
+    run_is_of_program answers bytes s text run (subst (λ (b : List ℕ). FileReply answers b s text) (named_is_run aim file bytes names) (loaded_says answers aim bytes loaded s text is_loaded said))

@@ -1,6 +1,5 @@
 -- The file that is generated, and what is told of its run.
-use Rattle.std.specs.Prelude.{ℕ, zero, suc, ◌+◌, ◌%◌, List, [], ◌∷◌, ◌++◌, codes, map, sum}
-use Rattle.std.specs.List.{flat_map, range_with_len}
+use Rattle.std.specs.Prelude.{ℕ, zero, suc, ◌+◌, ◌%◌, List, [], ◌∷◌, ◌++◌, codes}
 use Rattle.qk_core.specs.Program.{ProgramData}
 use Rattle.qk_core.specs.Properties.{PropertyData}
 use Rattle.qk_property.specs.Running.{run_of}
@@ -27,13 +26,22 @@ asked (suc (suc (suc n))) i = list_asked (2 + i % 50)
 abbrev pub property_line : ℕ → List ℕ
 property_line i = line (named (codes "(prop p") i ++ codes " (forall " ++ asked (i % 4) i ++ codes "))")
 
+-- the lines of that many properties from that number on
+abbrev pub lines_from : ℕ → ℕ → List ℕ
+lines_from i zero = []
+lines_from i (suc n) = property_line i ++ lines_from (i + 1) n
+
 -- a line for each property
 abbrev pub generated_file : ℕ → List ℕ
-generated_file n = flat_map property_line (range_with_len 0 n)
+generated_file n = lines_from 0 n
 
--- the attempts of all properties, with those that failed
+-- the attempts of these properties, with those that failed
+abbrev pub attempts_in : ReportSettings → ProgramData → List PropertyData → ℕ
+attempts_in s c [] = 0
+attempts_in s c (p ∷ ps) = attempts (run_of s c p) + attempts_in s c ps
+
 abbrev pub all_attempts : ReportSettings → ProgramData → ℕ
-all_attempts s c = sum (map (λ p. attempts (run_of s c p)) c.properties)
+all_attempts s c = attempts_in s c c.properties
 
 -- how many properties were made, the attempts of all, and the last line of a report
 abbrev pub generated_text : ReportSettings → ℕ → ProgramData → List ℕ

@@ -1,5 +1,5 @@
 -- The report of a program.
-use Rattle.std.specs.Prelude.{◌≡◌, ℕ, ◌+◌, Bool, true, false, nat_eq, List, [], ◌∷◌, ◌++◌, length, map, sum, if◌then◌else◌}
+use Rattle.std.specs.Prelude.{◌≡◌, ℕ, ◌+◌, Bool, true, false, nat_eq, List, [], ◌∷◌, ◌++◌, length, map, if◌then◌else◌}
 use Rattle.std.specs.List.{count_by}
 use Rattle.qk_base.specs.declared.status.Status.{Status}
 use Rattle.qk_base.specs.declared.status.Status.TheVariants as status

@@ -34,9 +34,12 @@ IsFault bytes r = (text_fault bytes ≡ Some r) ⊎ ((trees : PlainTrees) × Spe
 abbrev pub IsProgram : List ℕ → ProgramData → Type 0
 IsProgram bytes c = (trees : PlainTrees) × Spells bytes trees × (elaborated trees ≡ Ok c)
 
+abbrev pub Refuses : Refusal → Status → List ℕ → Type 0
+Refuses r s text = (s ≡ status.Refused) × (text ≡ refusal r)
+
 -- the answers to a file: the refusal of its fault, or those to its program
 abbrev pub FileReply : (ProgramData → Status → List ℕ → Type 0) → List ℕ → Status → List ℕ → Type 0
-FileReply answers bytes s text = ((r : Refusal) × IsFault bytes r × (s ≡ status.Refused) × (text ≡ refusal r)) ⊎ ((c : ProgramData) × IsProgram bytes c × answers c s text)
+FileReply answers bytes s text = ((r : Refusal) × IsFault bytes r × Refuses r s text) ⊎ ((c : ProgramData) × IsProgram bytes c × answers c s text)
 
 abbrev pub ReportReply : ReportSettings → ProgramData → Status → List ℕ → Type 0
 ReportReply s c status text = (status ≡ status_of s c) × IsReport s c text

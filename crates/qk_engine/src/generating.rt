@@ -23,7 +23,8 @@ fn put_property(alloc: Global, text: &mut Bytes, i: u32) -> Result<(), Memory>
     put_named(alloc, text, "(prop p", i as u64)?;
     put(text, " (forall ")?;
     put_asked(alloc, text, i)?;
-    put(text, "))\n")
+    put(text, "))\n")?;
+    Ok(())
 }
 
 // What is asked of property i.
@@ -43,12 +44,14 @@ fn put_number(alloc: Global, text: &mut Bytes, number: u64) -> Result<(), Memory
 {
     put_named(alloc, text, "((x (choose ", number)?;
     put_named(alloc, text, " ", number)?;
-    put(text, "))) (check (< x 5))")
+    put(text, "))) (check (< x 5))")?;
+    Ok(())
 }
 
 fn put_list(alloc: Global, text: &mut Bytes, length: u64) -> Result<(), Memory>
     ensures { OnOk result (text.new.items ≡ text.old.items ++ list_asked length) }
 {
     put_named(alloc, text, "((xs (vector ", length)?;
-    put(text, " (choose 3 3)))) (check (< (length xs) 2))")
+    put(text, " (choose 3 3)))) (check (< (length xs) 2))")?;
+    Ok(())
 }

@@ -15,7 +15,10 @@ pub fn read_program(alloc: Global, bytes: &[u8]) -> Result<Result<Core, Refusal>
     ensures { IfOk result (λ made. IsRead bytes.now made) }
 {
     match read(alloc, bytes) {
-        Ok(trees) => checked(alloc, &trees),
+        Ok(trees) => {
+            let made = checked(alloc, &trees)?;
+            Ok(made)
+        }
         Err(Fault::Memory) => Err(Memory),
         Err(Fault::Refused(refusal)) => Ok(Err(refusal)),
     }

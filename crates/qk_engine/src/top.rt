@@ -76,7 +76,10 @@ pub fn run_into<R: Threads + Sync, L: Library, G: Gate>(
     ensures unread { ((file : List ℕ) → Names (map string_bytes words.now) file → ⊥) → library.new ≡ library.old }
 {
     match read_words(alloc, words) {
-        Ok(settings) => run_with(rt, alloc, &settings, library, gate),
+        Ok(settings) => {
+            let made = run_with(rt, alloc, &settings, library, gate)?;
+            Ok(made)
+        }
         Err(WordsFault::Memory) => Err(Status::Memory),
         Err(WordsFault::NotAccepted) => Ok(usage_reply(alloc)?),
         Err(WordsFault::BadToken) => Ok(refused_token(alloc, "refused 40\n")?),

@@ -1,5 +1,5 @@
 -- An attempt that does not fail is taken by the course and by the tables of its property: its marks are as many as the clauses.
-use Rattle.std.proofs.Common.{◌≡◌, ◌∙◌, ℕ, suc, List, [], ◌∷◌, length, Some, None, refl, sym, ap}
+use Rattle.std.proofs.Common.{◌≡◌, ◌∙◌, ℕ, suc, List, [], ◌∷◌, length, Some, None, refl, sym, ap, subst}
 use Rattle.std.specs.List.{filter_map}
 use Rattle.qk_base.specs.Judged.{Judged, Marked, DoesNotFail}
 use Rattle.qk_base.specs.declared.outcome.Verdict.{Verdict}
@@ -111,6 +111,14 @@ module _ (p : PropertyData) where
   course_takes limits covers c seed fuel = λ k size small passed.
       let o = outcome c p seed fuel k size in
       of_verdict limits covers o.verdict o.marks (attempt_is_taken c size (attempt_gen seed k) fuel passed)
+
+-- the same of properties that are that one
+pub tables_take_at : (p q r : PropertyData) → q ≡ p → r ≡ p → (c : ProgramData) (seed fuel : ℕ) → TakesAll (IsTaken r) (outcome c q seed fuel)
+tables_take_at p q r of_q of_r c seed fuel =
+    subst (λ (x : PropertyData). TakesAll (IsTaken x) (outcome c q seed fuel)) (of_q ∙ sym of_r) (tables_take q c seed fuel)
+
+pub course_takes_at : (p q : PropertyData) (limits : Limits) → q ≡ p → limits.covers ≡ length (wanted_of p.marks) → (c : ProgramData) (seed fuel : ℕ) → TakesAll (Takes limits) (outcome c q seed fuel)
+course_takes_at p q limits same covers c seed fuel = course_takes q limits (covers ∙ ap (λ (x : PropertyData). length (wanted_of x.marks)) (sym same)) c seed fuel
 
 -- the limits of a run are in range
 pub limits_in_range : (s : RunSettings) (p : PropertyData) → AreInRange s → InRange (limits_of (report_settings s) p)

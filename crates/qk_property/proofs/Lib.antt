@@ -1,4 +1,4 @@
-pub mod Counting
+pub mod CommittedCounts
 pub mod Failures
 pub mod Fitting
 pub mod Generators

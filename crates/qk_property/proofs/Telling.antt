@@ -1,22 +1,28 @@
 -- What is told of a property's run.
-use Rattle.std.proofs.Common.{◌≡◌, ◌∙◌, ℕ, ◌+◌, ◌*◌, ◌≤◌, true, Some, sym, ap, arith}
+use Rattle.std.proofs.Common.{◌≡◌, ◌∙◌, ℕ, ◌+◌, ◌*◌, ◌≤◌, Bool, true, false, List, Some, None, if◌then◌else◌, option_map, refl, sym, ap, subst, arith}
 use Rattle.std.proofs.Math.Nat.{mul-le-mul_left}
 use Rattle.std.specs.Option.{is_some}
 use Rattle.qk_base.specs.declared.outcome.Cause.{Cause}
 use Rattle.qk_core.specs.Program.{ProgramData}
 use Rattle.qk_core.specs.Properties.{PropertyData}
+use Rattle.qk_base.specs.Judged.{Judged}
+use Rattle.qk_command.specs.Drawing.{DrawnValues}
+use Rattle.qk_minimise.specs.Minimal.{Minimal}
+use Rattle.qk_report.specs.PropertyBlock.{ToldData, property_block}
 use Rattle.qk_report.specs.ToldView.{IsFitting}
 use Rattle.qk_rounds.specs.Run.{attempts, failing}
+use Rattle.qk_rounds.specs.declared.work.Work.{Work}
 use Rattle.qk_schedule.specs.Counts.{Counts}
 use Rattle.qk_schedule.specs.declared.finish.Finish.TheVariants.{Failed}
 use Rattle.qk_property.specs.Attempts.{outcome, drawn_at}
-use Rattle.qk_property.specs.Ended.{IsTested}
+use Rattle.qk_property.specs.Blocks.{told, numbers_of}
+use Rattle.qk_property.specs.Ended.{IsTested, told_from}
 use Rattle.qk_property.specs.Points.{fails_at}
-use Rattle.qk_property.specs.Running.{limits_of, run_of}
-use Rattle.qk_property.specs.Settings.{AreInRange, report_settings}
+use Rattle.qk_property.specs.Running.{limits_of, run_of, work_for}
+use Rattle.qk_property.specs.Settings.{AreInRange, report_settings, told_window_of}
 use Rattle.qk_property.specs.declared.settings.RunSettings.{RunSettings}
 use Rattle.qk_property.specs.declared.testing.Tested.{Tested}
-use Rattle.qk_property.proofs.Counting.{IsCounted, counted}
+use Rattle.qk_property.proofs.CommittedCounts.{IsCounted, counted}
 use Rattle.qk_property.proofs.Failures.{blamed}
 
 module _ (s : RunSettings) (c : ProgramData) (p : PropertyData) where
@@ -58,3 +64,39 @@ module _ (s : RunSettings) (c : ProgramData) (p : PropertyData) where
       let last = ap failing is.run.finish_is in
       let all = counts.all in
       omega (arith, same, last, all)
+
+  work_same : (b : Bool) (window : ℕ) (work : Work) → work ≡ work_for (report_settings s) c p window
+      → (if b then Some (numbers_of work) else None) ≡ option_map (λ w. numbers_of (work_for (report_settings s) c p w)) (told_window_of b window)
+  work_same true window work e = ap (λ (w : Work). Some (numbers_of w)) e
+  work_same false window work e = refl
+
+  -- what is told of the end of a run is told of the run
+  pub told_same : (tested : Tested) (m : Minimal DrawnValues) (cause : Cause) → IsTested s c p tested → told_from s tested m cause ≡ told (report_settings s) c p m cause
+  told_same tested m cause is =
+      let state = is.run.state_is in
+      let finish = is.run.finish_is in
+      let work = work_same s.work s.window tested.work is.work in
+      λ i. record {
+        finish = finish i;
+        successes = (state i).successes;
+        discards = (state i).discards;
+        values = m.point.values;
+        cause = cause;
+        drawing = is_some m.point.crash;
+        path = m.path;
+        tried = m.tried;
+        limit_met = m.limit_met;
+        seed = s.seed;
+        fuel = s.fuel;
+        work = work i;
+      }
+
+  -- the text of what is told is the block of the run
+  pub text_same : (tested : Tested) (m : Minimal DrawnValues) (cause : Cause) (t : ToldData) (number : ℕ) (text : List ℕ) → IsTested s c p tested → t ≡ told_from s tested m cause
+      → ((outcomes : List Judged) → IsFitting tested.tables t.successes outcomes → text ≡ property_block c.kinds number tested.tables.property.now outcomes t)
+      → text ≡ property_block c.kinds number p (run_of (report_settings s) c p).done (told (report_settings s) c p m cause)
+  text_same tested m cause t number text is same said =
+      let fits : IsFitting tested.tables t.successes (run_of (report_settings s) c p).done = subst (λ (n : ℕ). IsFitting tested.tables n (run_of (report_settings s) c p).done) (sym (ap (λ (d : ToldData). d.successes) same)) (fitting tested is) in
+      said (run_of (report_settings s) c p).done fits
+      ∙ ap (λ (q : PropertyData). property_block c.kinds number q (run_of (report_settings s) c p).done t) is.made
+      ∙ ap (λ (d : ToldData). property_block c.kinds number p (run_of (report_settings s) c p).done d) (same ∙ told_same tested m cause is)

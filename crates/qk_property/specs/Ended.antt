@@ -1,5 +1,11 @@
 -- What the end of a property's run tells.
-use Rattle.std.specs.Prelude.{◌≡◌}
+use Rattle.std.specs.Prelude.{◌≡◌, Some, None, if◌then◌else◌}
+use Rattle.std.specs.Option.{is_some}
+use Rattle.qk_base.specs.declared.outcome.Cause.{Cause}
+use Rattle.qk_command.specs.Drawing.{DrawnValues}
+use Rattle.qk_minimise.specs.Minimal.{Minimal}
+use Rattle.qk_report.specs.PropertyBlock.{ToldData}
+use Rattle.qk_property.specs.Blocks.{numbers_of}
 use Rattle.qk_core.specs.Program.{ProgramData}
 use Rattle.qk_core.specs.Properties.{PropertyData}
 use Rattle.qk_report.specs.Counted.{StandsFor}
@@ -15,3 +21,20 @@ pub record IsTested (s : RunSettings) (c : ProgramData) (p : PropertyData) (test
   pub tables : StandsFor tested.tables (run_of (report_settings s) c p).done
   pub made : tested.tables.property.now ≡ p
   pub work : tested.work ≡ work_for (report_settings s) c p s.window
+
+-- what is told of that end, with these last values and their cause
+abbrev pub told_from : RunSettings → Tested → Minimal DrawnValues → Cause → ToldData
+told_from s tested m cause = record {
+  finish = tested.finish;
+  successes = tested.state.successes;
+  discards = tested.state.discards;
+  values = m.point.values;
+  cause = cause;
+  drawing = is_some m.point.crash;
+  path = m.path;
+  tried = m.tried;
+  limit_met = m.limit_met;
+  seed = s.seed;
+  fuel = s.fuel;
+  work = if s.work then Some (numbers_of tested.work) else None;
+}

@@ -1,5 +1,5 @@
 //! The attempts of a property, counted and not told.
-ghost use Rattle.std.specs.Prelude.{◌≡◌, ◌<◌, ◌≤◌, Some, length, slice_get, IfOk};
+ghost use Rattle.std.specs.Prelude.{◌≡◌, ◌<◌, ◌≤◌, ◌+◌, Some, length, slice_get, IfOk};
 ghost use Rattle.qk_core.specs.Properties.{PropertyData};
 ghost use Rattle.qk_property.specs.Running.{run_of};
 ghost use Rattle.qk_property.specs.Settings.{AreInRange, report_settings};
@@ -9,7 +9,7 @@ use crate::settings::RunSettings;
 use crate::testing::test_property;
 use qk_base::{Gate, Memory};
 use qk_core::Core;
-use qk_schedule::Finish;
+use qk_schedule::{Finish, State};
 use std::alloc::Global;
 use std::thread::Threads;
 
@@ -38,8 +38,18 @@ pub fn count_property<R: Threads + Sync, G: Gate>(
     let property = core.property(number);
     let tested = test_property(rt, alloc, gate, core, property, settings)?;
     let finish = tested.finish;
-    let attempts = tested.state.successes + tested.state.discards + failing(finish);
+    let attempts = attempts_in(&tested.state, finish);
     Ok(Counted { finish, attempts })
+}
+
+// The attempts of a run that ended so.
+fn attempts_in(state: &State, finish: Finish) -> u64
+    requires successes { state.now.successes ≤ 1_000_000 }
+    requires discards { state.now.discards ≤ 100_000_000 }
+    ensures exact { result ≡ state.now.successes + state.now.discards + failing finish }
+    ensures few { result ≤ 101_000_001 }
+{
+    state.successes + state.discards + failing(finish)
 }
 
 fn failing(finish: Finish) -> u64

@@ -118,13 +118,7 @@ impl<'c> Family for PropertyFamily<'c> {
                 spread: None,
             }),
             None => {
-                let spread = Spread::make(
-                    alloc,
-                    self.core,
-                    &property.binders,
-                    &values,
-                    self.fuel,
-                )?;
+                let spread = Spread::make(alloc, self.core, &property.binders, &values, self.fuel)?;
                 Ok(PointSpread {
                     values,
                     spread: Some(spread),

@@ -1,5 +1,5 @@
 //! The block of a property in the report.
-ghost use Rattle.std.specs.Prelude.{◌≡◌, ◌<◌, ◌≤◌, true, Some, length, slice_get, IfOk};
+ghost use Rattle.std.specs.Prelude.{◌≡◌, ◌<◌, ◌≤◌, true, Some, None, length, slice_get, IfOk, if◌then◌else◌};
 ghost use Rattle.qk_base.specs.declared.outcome.Cause.TheVariants as causes;
 ghost use Rattle.qk_core.specs.Properties.{PropertyData};
 ghost use Rattle.qk_property.specs.Attempts.{drawn_at};
@@ -8,7 +8,8 @@ ghost use Rattle.qk_property.specs.Points.{fails_at, IsSmallPoint};
 ghost use Rattle.qk_property.specs.Running.{run_of};
 ghost use Rattle.qk_property.specs.Settings.{AreInRange, report_settings};
 ghost use Rattle.qk_property.specs.Shrunk.{IsShrunk};
-ghost use Rattle.qk_property.specs.Ended.{IsTested};
+ghost use Rattle.qk_property.specs.Ended.{IsTested, told_from};
+ghost use Rattle.qk_report.specs.ToldView.{told_in};
 ghost use Rattle.qk_report.specs.PropertyBlock.{property_block};
 
 use crate::family::cause_of_point;
@@ -79,7 +80,9 @@ fn block_text<R: Threads + Sync, G: Gate>(
         } => {
             let minimum = last_point(rt, alloc, gate, core, property, settings, attempt, size)?;
             let cause = cause_of_point(alloc, core, property, settings.fuel, &minimum.point)?;
-            told_text(alloc, core, number, property, settings, tested, minimum, cause)
+            told_text(
+                alloc, core, number, property, settings, tested, minimum, cause,
+            )
         }
     }
 }
@@ -129,7 +132,16 @@ fn ended_text(
         tried: None,
         limit_met: false,
     };
-    told_text(alloc, core, number, property, settings, tested, nothing, Cause::False)
+    told_text(
+        alloc,
+        core,
+        number,
+        property,
+        settings,
+        tested,
+        nothing,
+        Cause::False,
+    )
 }
 
 // The block of a property with these last values and their cause.
@@ -148,24 +160,50 @@ fn told_text(
     requires run { IsTested settings.now core.now property.now tested.now }
     ensures { IfOk result (λ text. text.items ≡ property_block core.now.kinds number property.now (run_of (report_settings settings.now) core.now property.now).done (told (report_settings settings.now) core.now property.now minimum cause)) }
 {
+    let told = told_from(settings, tested, minimum, cause);
+    let text = property_text(alloc, core, number, &tested.tables, &told)?;
+    Ok(text)
+}
+
+// What is told of a run with these last values and their cause.
+fn told_from(
+    settings: &RunSettings,
+    tested: &Tested<'_>,
+    minimum: Minimum<Point>,
+    cause: Cause,
+) -> Told
+    ensures { told_in result ≡ told_from settings.now tested.now minimum cause }
+{
     let Work {
         windows,
         rounds,
         trials,
     } = tested.work;
-    let told = Told {
+    let Minimum {
+        point,
+        path,
+        tried,
+        limit_met,
+    } = minimum;
+    let Point { values, crash } = point;
+    Told {
         finish: tested.finish,
         successes: tested.state.successes,
         discards: tested.state.discards,
-        values: minimum.point.values,
+        values,
         cause,
-        drawing: minimum.point.crash.is_some(),
-        path: minimum.path,
-        tried: minimum.tried,
-        limit_met: minimum.limit_met,
+        drawing: crash.is_some(),
+        path,
+        tried,
+        limit_met,
         seed: settings.seed,
         fuel: settings.fuel,
-        work: settings.work.then_some((windows, rounds, trials)),
-    };
-    property_text(alloc, core, number, &tested.tables, &told)
+        work: work_told(settings.work, (windows, rounds, trials)),
+    }
+}
+
+fn work_told(wanted: bool, work: (u64, u64, u64)) -> Option<(u64, u64, u64)>
+    ensures { result ≡ (if wanted then Some work else None) }
+{
+    if wanted { Some(work) } else { None }
 }

@@ -1,10 +1,13 @@
 -- What is known of checks one after another that have come to a value.
 use Rattle.std.proofs.Common.{◌≡◌, ◌∙◌, ℕ, Bool, true, false, refl, ap, Ok, Err}
 use Rattle.qk_base.specs.declared.place.Place.{Place}
-use Rattle.qk_types.specs.Checks.{Checked, ◌>>=◌, ◌>>◌, check}
+use Rattle.qk_types.specs.Checks.{Checked, ◌>>=◌, ◌>>◌, refuse, check}
 
 pub ok_is : {A : Type 0} (a b : A) (e : Checked A) → e ≡ Ok a → e ≡ Ok b → a ≡ b
 ok_is a b e h k = cc
+
+pub no_value : {A : Type 0} (code : ℕ) (p : Place) (a : A) → refuse code p ≡ Ok a → ⊥
+no_value code p a h = absurd (cc)
 
 -- a value that was handed on
 pub bound : {A B : Type 0} (e : Checked A) (f : A → Checked B) (r : B) (Goal : Type 0) → ((a : A) → e ≡ Ok a → f a ≡ Ok r → Goal) → (e >>= f) ≡ Ok r → Goal

@@ -11,3 +11,9 @@ pub mod PartsStand
 pub mod GeneratorsStand
 pub mod NamesStand
 pub mod HeadersStand
+pub mod ModelsStand
+pub mod BindersStand
+pub mod MarksStand
+pub mod ClausesStand
+pub mod BodiesStand
+pub mod ProgramsStand

@@ -41,7 +41,7 @@ atom_by p false false = refl
 atom_is : (p : Place) (w : Word) → atom p w ≡ truth_at p (truth_of w)
 atom_is p w = atom_by p (bytes_eq (codes "true") w) (bytes_eq (codes "false") w)
 
-some_is : {A : Type 0} (a b : A) (o : Option A) → o ≡ Some a → o ≡ Some b → a ≡ b
+pub some_is : {A : Type 0} (a b : A) (o : Option A) → o ≡ Some a → o ≡ Some b → a ≡ b
 some_is a b o h k = cc
 
 lone_by : (p : Place) (v : Option Found) (o : Option Bool) (r : Typed) → variable_or p v (truth_at p o) ≡ Some r → IsLoneName v o r.ty r.expr

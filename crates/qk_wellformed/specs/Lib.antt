@@ -6,3 +6,7 @@ pub mod IsGenerator
 pub mod IsType
 pub mod IsVariable
 pub mod OperatorTypes
+pub mod IsModel
+pub mod AreBinders
+pub mod AreClauses
+pub mod StandsFor

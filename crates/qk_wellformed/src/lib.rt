@@ -2,5 +2,12 @@
 #![tactic(auto)]
 
 mod laws;
+mod programs;
+#[cfg(test)]
+mod tests;
 
-pub use laws::{expressions_stand, generators_stand, headers_stand, names_stand, types_stand};
+pub use laws::{
+    binders_stand, bodies_stand, clauses_stand, expressions_stand, generators_stand, headers_stand,
+    models_stand, names_stand, programs_stand, types_stand,
+};
+pub use programs::program_of;

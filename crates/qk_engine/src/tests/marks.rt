@@ -61,9 +61,11 @@ fn sizes_of_250_tests(rt: HostRuntime) -> Result<(), Fail> {
 }
 
 // The texts of the even and of the odd numbers below 100 in the order of their bytes.
-const EVEN: &str = "0 10 12 14 16 18 2 20 22 24 26 28 30 32 34 36 38 4 40 42 44 46 48 50 52 54 56 58 6 60 62 64 66 68 70 72 74 76 78 8 80 82 84 86 88 90 92 94 96 98";
+const EVEN: &str =
+    "0 10 12 14 16 18 2 20 22 24 26 28 30 32 34 36 38 4 40 42 44 46 48 50 52 54 56 58 6 60 62 64 66 68 70 72 74 76 78 8 80 82 84 86 88 90 92 94 96 98";
 
-const ODD: &str = "1 11 13 15 17 19 21 23 25 27 29 3 31 33 35 37 39 41 43 45 47 49 5 51 53 55 57 59 61 63 65 67 69 7 71 73 75 77 79 81 83 85 87 89 9 91 93 95 97 99";
+const ODD: &str =
+    "1 11 13 15 17 19 21 23 25 27 29 3 31 33 35 37 39 41 43 45 47 49 5 51 53 55 57 59 61 63 65 67 69 7 71 73 75 77 79 81 83 85 87 89 9 91 93 95 97 99";
 
 fn rows(alloc: Global, count: &str, texts: &str) -> Result<String, Fail> {
     let mut lines = String::new(alloc);
@@ -80,7 +82,9 @@ fn rows(alloc: Global, count: &str, texts: &str) -> Result<String, Fail> {
 fn even_sizes(rt: HostRuntime) -> Result<(), Fail> {
     let mut text = String::from_str(rt.alloc(), "a: passed 100 tests, 500 discarded\nlabels:\n")?;
     text.push_str(rows(rt.alloc(), "        2   2% ", TWICE)?.as_str())?;
-    text.push_str("        1   1% 0\n        1   1% 100\nproperties: 1, passed 1, failed 0, gave up 0\n")?;
+    text.push_str(
+        "        1   1% 0\n        1   1% 100\nproperties: 1, passed 1, failed 0, gave up 0\n",
+    )?;
     says(
         &rt,
         "f",
@@ -90,7 +94,8 @@ fn even_sizes(rt: HostRuntime) -> Result<(), Fail> {
     )
 }
 
-const TWICE: &str = "10 12 14 16 18 2 20 22 24 26 28 30 32 34 36 38 4 40 42 44 46 48 50 52 54 56 58 6 60 62 64 66 68 70 72 74 76 78 8 80 82 84 86 88 90 92 94 96 98";
+const TWICE: &str =
+    "10 12 14 16 18 2 20 22 24 26 28 30 32 34 36 38 4 40 42 44 46 48 50 52 54 56 58 6 60 62 64 66 68 70 72 74 76 78 8 80 82 84 86 88 90 92 94 96 98";
 
 #[test]
 fn giving_up_soon(rt: HostRuntime) -> Result<(), Fail> {

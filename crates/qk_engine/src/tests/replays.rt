@@ -17,15 +17,35 @@ replay: q1:0:0:0:0:100000:2.2
 // Words, the file, the status and the text.
 const REPLAYS: [(&str, &str, u8, &str); 12] = [
     ("--replay q1:0:0:0:0:100000:2.2 f", EIGHT, 1, REPLAYED),
-    ("f --replay=q1:0:0:0:0:100000:2.2 --greedy", EIGHT, 1, REPLAYED),
-    ("--seed 7 --success 3 f --replay=q1:0:0:0:0:100000:2.2", EIGHT, 1, REPLAYED),
+    (
+        "f --replay=q1:0:0:0:0:100000:2.2 --greedy",
+        EIGHT,
+        1,
+        REPLAYED,
+    ),
+    (
+        "--seed 7 --success 3 f --replay=q1:0:0:0:0:100000:2.2",
+        EIGHT,
+        1,
+        REPLAYED,
+    ),
     ("--replay q1:0:0:0:0:100000:1 f", EIGHT, 2, "refused 40\n"),
     ("--replay q1:0:0:0:0:100000:4 f", EIGHT, 2, "refused 40\n"),
-    ("--replay q1:0:0:0:0:100000:2.2.0 f", EIGHT, 2, "refused 40\n"),
+    (
+        "--replay q1:0:0:0:0:100000:2.2.0 f",
+        EIGHT,
+        2,
+        "refused 40\n",
+    ),
     ("--replay q1:1:0:0:0:100000:- f", EIGHT, 2, "refused 41\n"),
     ("--replay q1:0:0 g", EIGHT, 2, "refused 40\n"),
     ("--replay q1:1:0:0:0:100000:- g", EIGHT, 4, ""),
-    ("--replay q1:1:0:0:0:100000:- f", "(prop a)", 3, "refused 23 at 1:1\n"),
+    (
+        "--replay q1:1:0:0:0:100000:- f",
+        "(prop a)",
+        3,
+        "refused 23 at 1:1\n",
+    ),
     (
         "--replay q1:0:0:0:0:100000:- f",
         "(gen g () Int (g)) (prop a (forall ((x (g))) (check true)))",

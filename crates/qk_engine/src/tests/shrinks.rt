@@ -150,7 +150,9 @@ fn shrinks_so<R: Threads + Sync + Abort + AllocGlobal>(rt: &R, row: Shrink) -> R
         value,
         path,
     } = row;
-    let text = format!(in rt.alloc(); "a: failed after 1 test, 0 discarded\ncause: {cause}\nattempt: 0, size 0\nshrinks: {shrinks}\n{value}path: {path}\nreplay: q1:0:0:0:0:100000:{path}\nproperties: 1, passed 0, failed 1, gave up 0\n")?;
+    let text = format!(in rt.alloc();
+        "a: failed after 1 test, 0 discarded\ncause: {cause}\nattempt: 0, size 0\nshrinks: {shrinks}\n{value}path: {path}\nreplay: q1:0:0:0:0:100000:{path}\nproperties: 1, passed 0, failed 1, gave up 0\n"
+    )?;
     says(rt, words, file, 1, text.as_str())
 }
 
@@ -174,7 +176,10 @@ fn either<R: Threads + Sync + Abort + AllocGlobal>(
     let said = written(rt, words, file, &OpenGate)?;
     let one = greedy_text(rt, shrinks, first)?;
     let other = greedy_text(rt, shrinks, second)?;
-    assert!(rt; said.as_str() == one.as_str() || said.as_str() == other.as_str(), "{said}");
+    assert!(rt;
+        said.as_str() == one.as_str() || said.as_str() == other.as_str(),
+        "{said}"
+    );
     Ok(())
 }
 
@@ -184,7 +189,9 @@ fn greedy_text<R: Threads + Sync + Abort + AllocGlobal>(
     end: (&str, &str),
 ) -> Result<String, Fail> {
     let (value, path) = end;
-    Ok(format!(in rt.alloc(); "a: failed after 1 test, 0 discarded\ncause: false\nattempt: 0, size 0\nshrinks: {shrinks}\n  x = {value}\npath: {path}\nreplay: q1:0:0:0:0:100000:{path}\nproperties: 1, passed 0, failed 1, gave up 0\nstatus 1")?)
+    Ok(format!(in rt.alloc();
+        "a: failed after 1 test, 0 discarded\ncause: false\nattempt: 0, size 0\nshrinks: {shrinks}\n  x = {value}\npath: {path}\nreplay: q1:0:0:0:0:100000:{path}\nproperties: 1, passed 0, failed 1, gave up 0\nstatus 1"
+    )?)
 }
 
 #[test]
@@ -198,8 +205,22 @@ fn other_causes(rt: HostRuntime) -> Result<(), Fail> {
 #[test]
 fn greedy_minima(rt: HostRuntime) -> Result<(), Fail> {
     for _ in 0..5u32 {
-        either(&rt, "--greedy f", SIXTEEN, "1, greedy", ("8", "1"), ("12", "2"))?;
-        either(&rt, "--greedy --shrinks 1 f", EIGHT, "1, greedy, limit reached", ("6", "2"), ("7", "3"))?;
+        either(
+            &rt,
+            "--greedy f",
+            SIXTEEN,
+            "1, greedy",
+            ("8", "1"),
+            ("12", "2"),
+        )?;
+        either(
+            &rt,
+            "--greedy --shrinks 1 f",
+            EIGHT,
+            "1, greedy, limit reached",
+            ("6", "2"),
+            ("7", "3"),
+        )?;
     }
     Ok(())
 }

@@ -28,10 +28,38 @@ const PASSED_ALL: &str = "properties: 1, passed 1, failed 0, gave up 0\n";
 
 // Words, a file, the block, the line on work and the last line.
 const WORKS: [(&str, &str, u8, &str, &str, &str); 4] = [
-    ("--work f", PASSING, 0, PASSED, "work: windows 2, rounds 2, trials 100\n", PASSED_ALL),
-    ("--window 8 --work f", SKIPS, 1, SKIPS_FAILED, "work: windows 2, rounds 11, trials 30\n", FAILED),
-    ("--window 1 --work f", SKIPS, 1, SKIPS_FAILED, "work: windows 14, rounds 14, trials 14\n", FAILED),
-    ("--work --window=8 --workers 1 f", SKIPS, 1, SKIPS_FAILED, "work: windows 2, rounds 11, trials 30\n", FAILED),
+    (
+        "--work f",
+        PASSING,
+        0,
+        PASSED,
+        "work: windows 2, rounds 2, trials 100\n",
+        PASSED_ALL,
+    ),
+    (
+        "--window 8 --work f",
+        SKIPS,
+        1,
+        SKIPS_FAILED,
+        "work: windows 2, rounds 11, trials 30\n",
+        FAILED,
+    ),
+    (
+        "--window 1 --work f",
+        SKIPS,
+        1,
+        SKIPS_FAILED,
+        "work: windows 14, rounds 14, trials 14\n",
+        FAILED,
+    ),
+    (
+        "--work --window=8 --workers 1 f",
+        SKIPS,
+        1,
+        SKIPS_FAILED,
+        "work: windows 2, rounds 11, trials 30\n",
+        FAILED,
+    ),
 ];
 
 fn works<R: Threads + Sync + Abort + AllocGlobal>(

@@ -1,6 +1,6 @@
-use Rattle.std.proofs.Common.{◌<◌, length, subst, ℕ}
+use Rattle.std.proofs.Common.{◌<◌, ◌≤◌, length, subst, ℕ, arith}
 use Rattle.qk_engine.specs.Program.{is_passed, is_failed, is_gave_up}
-use Rattle.qk_engine.proofs.ProgramLaws.{some_at, blocks_next, counted_next, few_next}
+use Rattle.qk_engine.proofs.ProgramLaws.{some_at, blocks_next, blocks_end, counted_next, few_next}
 use Rattle.qk_engine.proofs.blocks.put_blocks.Goals as goal
 use Rattle.qk_property.specs.Settings.{report_settings}
 
@@ -24,3 +24,9 @@ loop-number-preserved g c =
       few_failed = few_next (is_failed f) _ _ i more.failed so_far.few_failed;
       few_gave_up = few_next (is_gave_up f) _ _ i more.gave_up so_far.few_gave_up;
     }
+
+pub returns-clause-text : goal.returns-clause-text
+returns-clause-text g c =
+    let core = c.args.core.now in
+    let past : length core.properties ≤ c.loop-number.number = omega (arith, c.loop-number-test.false, c.properties-number-end.ensures) in
+    blocks_end (report_settings c.args.settings.now) core core.properties c.loop-number.number c.loop-number.text.items c.args.text.now.items past c.loop-number.invariant.text

@@ -6,7 +6,7 @@ use Rattle.qk_engine.proofs.blocks.put_blocks.Given as goal
 use Rattle.qk_property.specs.Settings.{report_settings}
 
 abbrev pub invariant-loop-number : goal.invariant-loop-number
-invariant-loop-number l =
+invariant-loop-number g l =
     let left = drop l.number l.core.properties in
     let s = report_settings l.settings in
     record {

@@ -1,13 +1,12 @@
 -- What was counted and what is left make the whole.
 use Rattle.std.proofs.Common.{◌≡◌, ◌≤◌, ◌+◌, ◌*◌, drop, count_by}
-use Rattle.qk_engine.specs.Generated.{all_attempts}
+use Rattle.qk_engine.specs.Generated.{all_attempts, attempts_in}
 use Rattle.qk_engine.specs.Program.{finishes, how_many, is_passed, is_failed, is_gave_up}
-use Rattle.qk_engine.proofs.ProgramLaws.{attempts_in}
 use Rattle.qk_engine.proofs.summing.sum_properties.Given as goal
 use Rattle.qk_property.specs.Settings.{report_settings}
 
 abbrev pub invariant-loop-number : goal.invariant-loop-number
-invariant-loop-number l =
+invariant-loop-number g l =
     let left = drop l.number l.core.properties in
     let s = report_settings l.settings in
     record {

@@ -1,0 +1,20 @@
+use Rattle.std.proofs.Common.{◌∙◌, ap}
+use Rattle.std.proofs.Crossing.{crosses}
+use denote.Param.Send.{sendable}
+use Rattle.qk_core.proofs.Sends.{core_sync, property_sync}
+use Rattle.qk_schedule.specs.declared.limits.Limits.{Limits}
+use Rattle.qk_property.proofs.Fitting.{course_takes_at, tables_take_at}
+use Rattle.qk_property.proofs.testing.test_property.Goals as goal
+
+pub drive-requires-sync-T : goal.drive-requires-sync-T
+drive-requires-sync-T g c κs within = search (core_sync, property_sync, crosses, sendable) depth 60 fits 20000
+
+pub drive-requires-clause-course_takes : goal.drive-requires-clause-course_takes
+drive-requires-clause-course_takes g c κs within =
+    let trial = c.make-trial.result in
+    course_takes_at c.args.property.now trial.property.now c.make-course.result.limits c.make-trial.ensures.property (ap (λ (l : Limits). l.covers) (c.make-course.ensures ∙ c.in_ok-limits.ensures)) trial.core.now trial.seed trial.fuel
+
+pub drive-requires-clause-tally_takes : goal.drive-requires-clause-tally_takes
+drive-requires-clause-tally_takes g c κs within =
+    let trial = c.make-trial.result in
+    tables_take_at c.args.property.now trial.property.now c.in_ok-tables.tables.property.now c.make-trial.ensures.property c.in_ok-tables.ensures.made trial.core.now trial.seed trial.fuel
