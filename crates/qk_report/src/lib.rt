@@ -13,8 +13,6 @@ mod property_block;
 mod rows;
 mod table_lines;
 mod tables;
-#[cfg(test)]
-mod tests;
 mod texts;
 mod token;
 mod token_laws;
