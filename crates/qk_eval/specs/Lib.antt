@@ -1,5 +1,6 @@
 pub mod Answers
 pub mod Falls
+pub mod Forms
 pub mod Meaning
 pub mod Nodes
 pub mod Parts

@@ -105,7 +105,7 @@ fn items_of(alloc: Global, list: &Shared) -> Result<Vec<Shared>, Memory>
 }
 
 /// These items and then a list's, unless the list is too heavy. No item is too deep.
-pub(crate) fn prepend(
+pub fn prepend(
     alloc: Global,
     items: Vec<Shared>,
     rest: Shared,

@@ -7,6 +7,7 @@ mod bodies;
 mod calls;
 mod forms;
 mod notation;
+mod told;
 mod wanted;
 
 use crate::{Answer, call, eval};

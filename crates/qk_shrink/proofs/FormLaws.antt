@@ -42,3 +42,8 @@ pub pair_form : (kinds : List KindData) (ty : Ty) (v : Value) (t u : Box Ty Glob
     → value_candidates kinds (view_type ty) (view_value v)
     ≡ map (λ c. pair c (view_value b.value)) (value_candidates kinds (view_type t.value) (view_value a.value)) ++ map (pair (view_value a.value)) (value_candidates kinds (view_type u.value) (view_value b.value))
 pair_form kinds ty v t u a b is_type is i = value_candidates kinds ((ap view_type is_type ∙ seen_pair t u) i) ((ap view_value is ∙ valued_pair a b) i)
+
+-- the same of a shared pair
+pub pair_data : (kinds : List KindData) (ty : Ty) (d : Data) (t u : Box Ty Global) (a b : Data) → ty ≡ types.Pair t u → d ≡ pair a b
+    → value_candidates kinds (view_type ty) d ≡ map (λ c. pair c b) (value_candidates kinds (view_type t.value) a) ++ map (pair a) (value_candidates kinds (view_type u.value) b)
+pair_data kinds ty d t u a b is_type is i = value_candidates kinds ((ap view_type is_type ∙ seen_pair t u) i) (is i)

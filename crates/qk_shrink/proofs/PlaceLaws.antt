@@ -2,15 +2,13 @@
 use Rattle.std.proofs.Common.{◌≡◌, ◌∙◌, ℕ, zero, suc, ◌+◌, ◌<◌, ◌≤◌, min, List, [], ◌∷◌, ◌++◌, map, take, drop, length, get_or, refl, sym, ap, add-one, arith}
 use Rattle.std.proofs.Math.Seq.{drop-cons}
 use Rattle.std.proofs.lemmas.List.{length-append, length-map, take_more}
-use Rattle.qk_value.specs.Data.{Data, Datas, end, more, datas_of}
+use Rattle.qk_value.specs.Data.{end, more}
 use Rattle.qk_value.specs.Kinds.{KindData}
 use Rattle.qk_value.specs.Measures.{weight, weights}
 use Rattle.qk_value.specs.Types.{TypeData}
 use Rattle.qk_value.specs.View.{view_type, view_value, view_values}
 use Rattle.qk_value.specs.declared.ty.Ty.{Ty}
 use Rattle.qk_value.specs.declared.value.Value.{Value}
-use Rattle.qk_eval.specs.Parts.{joined}
-use Rattle.qk_eval.proofs.ListLaws.{view_push}
 use Rattle.qk_shrink.specs.Candidates.{value_candidates, items_in_place, parts_in_place, own_part, own_parts}
 use Rattle.qk_shrink.specs.Sought.{sought, map_sought}
 use Rattle.qk_shrink.specs.declared.sought.Sought.{Sought}
@@ -26,13 +24,13 @@ map_twice f g (Here x) = refl
 map_twice f g (Past k) = refl
 
 -- a candidate of the first member is found
-pub here_in_place : {X T : Type 0} (put : X → T → T) (before : T → T) (x : X) (rest : T) (firsts : List X) (others : List T) (k : ℕ) (c : X)
+pub here_in_place : {X T U : Type 0} (put : X → T → T) (before : T → U) (x : X) (rest : T) (firsts : List X) (others : List T) (k : ℕ) (c : X)
     → Here c ≡ sought firsts k → Here (before (put c rest)) ≡ map_sought before (sought (placed put x rest firsts others) k)
 here_in_place put before x rest firsts others k c h =
     ap (map_sought before) (in_first (map (λ c. put c rest) firsts) (map (put x) others) k (put c rest) (mapped (λ c. put c rest) firsts k (Here c) h))
 
 -- past them the search goes on behind the first member
-pub past_in_place : {X T : Type 0} (put : X → T → T) (before : T → T) (x : X) (rest : T) (firsts : List X) (others : List T) (k left : ℕ)
+pub past_in_place : {X T U : Type 0} (put : X → T → T) (before : T → U) (x : X) (rest : T) (firsts : List X) (others : List T) (k left : ℕ)
     → Past left ≡ sought firsts k → map_sought (λ t. before (put x t)) (sought others left) ≡ map_sought before (sought (placed put x rest firsts others) k)
 past_in_place put before x rest firsts others k left h =
     sym (map_twice before (put x) (sought others left)) ∙ ap (map_sought before) (sym (sought_map (put x) others left)
@@ -63,40 +61,6 @@ parts_next kinds ts xs i t x h k is_type is j = parts_in_place kinds (map view_t
 pub own_next : (kind : ℕ) (ts : List Ty) (xs : List Value) (i : ℕ) (t : Ty) (x : Value) → i < length ts → i < length xs → t ≡ get_or ts i t → x ≡ get_or xs i x
     → own_parts kind (map view_type (drop i ts)) (view_values (drop i xs)) ≡ own_part kind (view_type t) (view_value x) ++ own_parts kind (map view_type (drop (i + 1) ts)) (view_values (drop (i + 1) xs))
 own_next kind ts xs i t x h k is_type is j = own_parts kind (map view_type (next ts i t h is_type j)) (view_values (next xs i x k is j))
-
--- what is put behind one more
-pub behind : (xs : List Value) (i : ℕ) (x : Value) → i < length xs → x ≡ get_or xs i x → joined (view_values (take (i + 1) xs)) ≡ (λ ds. joined (view_values (take i xs)) (more (view_value x) ds))
-behind xs i x h is j ds = (ap (λ vs. joined (view_values vs) ds) (passed xs i x h is) ∙ view_push (take i xs) x ds) j
-
-middle : (xs : List Data) (y : Data) (zs : List Data) → datas_of (xs ++ y ∷ zs) ≡ joined (datas_of xs) (more y (datas_of zs))
-middle [] y zs = refl
-middle (x ∷ xs) y zs = ap (more x) (middle xs y zs)
-
--- the values with one replaced
-pub replaced : (xs all : List Value) (i : ℕ) (y : Value) → map view_value all ≡ map view_value (take i xs) ++ view_value y ∷ map view_value (drop (i + 1) xs)
-    → view_values all ≡ joined (view_values (take i xs)) (more (view_value y) (view_values (drop (i + 1) xs)))
-replaced xs all i y h = ap datas_of h ∙ middle (map view_value (take i xs)) (view_value y) (map view_value (drop (i + 1) xs))
-
--- the candidate of one value, put in its place, is found
-pub place_here : (xs all : List Value) (i : ℕ) (x c : Value) (firsts : List Data) (others whole : List Datas) (k : ℕ) (s : Sought Value)
-    → map view_value all ≡ map view_value (take i xs) ++ view_value c ∷ map view_value (drop (i + 1) xs) → s ≡ Here c → map_sought view_value s ≡ sought firsts k
-    → whole ≡ placed more (view_value x) (view_values (drop (i + 1) xs)) firsts others → Here (view_values all) ≡ map_sought (joined (view_values (take i xs))) (sought whole k)
-place_here xs all i x c firsts others whole k s copied is found whole_is =
-    let before = joined (view_values (take i xs)) in
-    ap Here (replaced xs all i c copied)
-    ∙ here_in_place more before (view_value x) (view_values (drop (i + 1) xs)) firsts others k (view_value c) (ap (map_sought view_value) (sym is) ∙ found)
-    ∙ ap (λ l. map_sought before (sought l k)) (sym whole_is)
-
--- past the candidates of one value the search goes on behind it
-pub place_past : (xs : List Value) (i : ℕ) (x : Value) (firsts : List Data) (others whole : List Datas) (k left : ℕ) (s : Sought Value)
-    → i < length xs → x ≡ get_or xs i x → s ≡ Past left → map_sought view_value s ≡ sought firsts k
-    → whole ≡ placed more (view_value x) (view_values (drop (i + 1) xs)) firsts others
-    → map_sought (joined (view_values (take (i + 1) xs))) (sought others left) ≡ map_sought (joined (view_values (take i xs))) (sought whole k)
-place_past xs i x firsts others whole k left s below at is found whole_is =
-    let before = joined (view_values (take i xs)) in
-    ap (λ f. map_sought f (sought others left)) (behind xs i x below at)
-    ∙ past_in_place more before (view_value x) (view_values (drop (i + 1) xs)) firsts others k left (ap (map_sought view_value) (sym is) ∙ found)
-    ∙ ap (λ l. map_sought before (sought l k)) (sym whole_is)
 
 pub weights_next : (xs : List Value) (i : ℕ) (x : Value) → i < length xs → x ≡ get_or xs i x → weights (view_values (drop i xs)) ≡ weight (view_value x) + weights (view_values (drop (i + 1) xs))
 weights_next xs i x h is = ap (λ vs. weights (view_values vs)) (next xs i x h is)

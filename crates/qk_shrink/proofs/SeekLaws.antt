@@ -1,10 +1,7 @@
 -- The search among the candidates of a pair, of a list and of a value of a user type.
-use Rattle.std.proofs.Common.{◌≡◌, ◌∙◌, ℕ, List, ◌++◌, map, length, sym, ap}
-use Rattle.std.proofs.lemmas.List.{length-map}
-use Rattle.qk_value.specs.Data.{Data, list, pair, made, Datas, datas_of, listed_data}
-use Rattle.qk_value.specs.View.{view_value, view_values}
-use Rattle.qk_value.specs.declared.value.Value.{Value}
-use Rattle.qk_eval.proofs.SharedLaws.{listed_again}
+use Rattle.std.proofs.Common.{◌≡◌, ◌∙◌, ℕ, suc, List, ◌++◌, map, length, refl, ap}
+use Rattle.qk_value.specs.Data.{Data, list, pair, made, Datas, end, more, datas_of, listed_data}
+use Rattle.qk_eval.specs.Parts.{count}
 use Rattle.qk_shrink.specs.Blocks.{blocks, without, removals}
 use Rattle.qk_shrink.specs.Sought.{sought, map_sought}
 use Rattle.qk_shrink.specs.declared.blocks.Block.{Block}
@@ -20,28 +17,28 @@ pub pair_second : (a b : Data) (firsts seconds : List Data) (k left : ℕ) (s : 
 pair_second a b firsts seconds k left s past h =
     mapped (pair a) seconds left s h ∙ past_first (map (λ c. pair c b) firsts) (map (pair a) seconds) k left (mapped (λ c. pair c b) firsts k (Past left) past)
 
--- the values without each block
-removals_of : (xs : List Value) → removals (listed_data (view_values xs)) ≡ map (without (map view_value xs)) (blocks (length xs))
-removals_of xs =
-    ap removals (listed_again (map view_value xs)) ∙ ap (λ n. map (without (map view_value xs)) (blocks n)) (length-map xs view_value)
+removed : (xs : List Data) (k : ℕ) (s : Sought Block) → s ≡ sought (blocks (length xs)) k → map_sought datas_of (map_sought (without xs) s) ≡ sought (map datas_of (removals xs)) k
+removed xs k s h = mapped datas_of (removals xs) k (map_sought (without xs) s) (mapped (without xs) (blocks (length xs)) k s h)
 
-removed : (xs : List Value) (k : ℕ) (s : Sought Block) → s ≡ sought (blocks (length xs)) k
-    → map_sought datas_of (map_sought (without (map view_value xs)) s) ≡ sought (map datas_of (removals (listed_data (view_values xs)))) k
-removed xs k s h =
-    mapped datas_of (removals (listed_data (view_values xs))) k (map_sought (without (map view_value xs)) s)
-    (mapped (without (map view_value xs)) (blocks (length xs)) k s h ∙ ap (λ l. sought l k) (sym (removals_of xs)))
+pub count_listed : (ds : Datas) → count ds ≡ length (listed_data ds)
+count_listed end = refl
+count_listed (more d ds) = ap suc (count_listed ds)
 
-pub list_first : (xs all : List Value) (block : Block) (others : List Datas) (k : ℕ) → map view_value all ≡ without (map view_value xs) block → Here block ≡ sought (blocks (length xs)) k
-    → Here (list (view_values all)) ≡ sought (map list (map datas_of (removals (listed_data (view_values xs))) ++ others)) k
-list_first xs all block others k copied found =
-    let first = map datas_of (removals (listed_data (view_values xs))) in
-    mapped list (first ++ others) k (Here (view_values all)) (in_first first others k (view_values all) (ap (λ vs. Here (datas_of vs)) copied ∙ removed xs k (Here block) found))
+-- the list without a block is found
+pub list_first : (xs : List Data) (others : List Datas) (n k : ℕ) (block : Block) → n ≡ length xs → Here block ≡ sought (blocks n) k
+    → Here (list (datas_of (without xs block))) ≡ sought (map list (map datas_of (removals xs) ++ others)) k
+list_first xs others n k block is found =
+    let first = map datas_of (removals xs) in
+    let here = found ∙ ap (λ m. sought (blocks m) k) is in
+    mapped list (first ++ others) k (Here (datas_of (without xs block))) (in_first first others k (datas_of (without xs block)) (removed xs k (Here block) here))
 
-pub list_second : (xs : List Value) (others : List Datas) (k left : ℕ) (s : Sought Datas) → Past left ≡ sought (blocks (length xs)) k → s ≡ sought others left
-    → map_sought list s ≡ sought (map list (map datas_of (removals (listed_data (view_values xs))) ++ others)) k
-list_second xs others k left s past h =
-    let first = map datas_of (removals (listed_data (view_values xs))) in
-    mapped list (first ++ others) k s (h ∙ past_first first others k left (removed xs k (Past left) past))
+-- past the blocks the search goes on among the others
+pub list_second : (xs : List Data) (others : List Datas) (n k left : ℕ) (s : Sought Data) → n ≡ length xs → Past left ≡ sought (blocks n) k → s ≡ map_sought list (sought others left)
+    → s ≡ sought (map list (map datas_of (removals xs) ++ others)) k
+list_second xs others n k left s is past h =
+    let first = map datas_of (removals xs) in
+    let none = past ∙ ap (λ m. sought (blocks m) k) is in
+    h ∙ mapped list (first ++ others) k (sought others left) (past_first first others k left (removed xs k (Past left) none))
 
 pub made_second : (kind maker : ℕ) (own : List Data) (others : List Datas) (k left : ℕ) (s : Sought Datas) → Past left ≡ sought own k → s ≡ sought others left
     → map_sought (made kind maker) s ≡ sought (own ++ map (made kind maker) others) k

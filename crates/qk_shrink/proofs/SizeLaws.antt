@@ -16,7 +16,7 @@ abbrev pub Within : Data → Data → Type 0
 Within d c = (weight c ≤ weight d) × (depth c ≤ depth d)
 
 -- values that are together no heavier and no deeper
-abbrev Withins : Datas → Datas → Type 0
+abbrev pub Withins : Datas → Datas → Type 0
 Withins ds es = (weights es ≤ weights ds) × (depths es ≤ depths ds)
 
 -- a value that is no heavier and no deeper than some together
@@ -28,7 +28,7 @@ light_rest zero xs = (omega arith, omega arith)
 light_rest (suc n) [] = (omega arith, omega arith)
 light_rest (suc n) (x ∷ xs) = let rest = light_rest n xs in (omega (arith, rest.0), omega (arith, rest.1))
 
-light_ends : (n m : ℕ) (xs : List Data) → n ≤ m → (weights (datas_of (take n xs ++ drop m xs)) ≤ weights (datas_of xs)) × (depths (datas_of (take n xs ++ drop m xs)) ≤ depths (datas_of xs))
+pub light_ends : (n m : ℕ) (xs : List Data) → n ≤ m → (weights (datas_of (take n xs ++ drop m xs)) ≤ weights (datas_of xs)) × (depths (datas_of (take n xs ++ drop m xs)) ≤ depths (datas_of xs))
 light_ends zero m xs h = light_rest m xs
 light_ends (suc n) zero xs h = absurd (omega arith)
 light_ends (suc n) (suc m) [] h = (omega arith, omega arith)
@@ -103,7 +103,7 @@ mutual
       (All-map (Withins (more d ds)) (more d) (items_in_place kinds t ds)
       (each (Withins ds) (λ es. Withins (more d ds) (more d es)) (λ es h. (omega (arith, h.0), omega (arith, h.1))) (items_in_place kinds t ds) (light_items kinds t ds)))
 
-  light_parts : (kinds : List KindData) (ts : List TypeData) (ds : Datas) → All (Withins ds) (parts_in_place kinds ts ds)
+  pub light_parts : (kinds : List KindData) (ts : List TypeData) (ds : Datas) → All (Withins ds) (parts_in_place kinds ts ds)
   light_parts kinds [] ds = All-nil (Withins ds)
   light_parts kinds (t ∷ ts) end = All-nil (Withins end)
   light_parts kinds (t ∷ ts) (more d ds) =

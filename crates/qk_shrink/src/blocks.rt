@@ -1,14 +1,9 @@
 //! The blocks that are taken out of a list, by number.
-ghost use Rattle.std.specs.Prelude.{◌≡◌, ◌+◌, ◌*◌, ◌≤◌, length, map, IfOk};
-ghost use Rattle.qk_shrink.specs.Blocks.{blocks, without};
+ghost use Rattle.std.specs.Prelude.{◌≡◌, ◌+◌, ◌*◌, ◌≤◌, length};
+ghost use Rattle.qk_shrink.specs.Blocks.{blocks};
 ghost use Rattle.qk_shrink.specs.Sought.{IfHere, sought};
-ghost use Rattle.qk_value.specs.View.{view_value};
 
-use crate::copies::copy_onto;
 use crate::sought::Sought;
-use qk_base::{Memory, Seq};
-use qk_value::{Value, copy_all};
-use std::alloc::Global;
 
 /// Consecutive items of a list.
 #[derive(Clone, Copy)]
@@ -51,18 +46,4 @@ pub(crate) fn seek_block(items: usize, k: u64) -> Sought<Block>
         size /= 2;
     }
     Sought::Past(left)
-}
-
-/// The items outside a block.
-pub(crate) fn without_block(
-    alloc: Global,
-    items: &[Value],
-    block: Block,
-) -> Result<Seq<Value>, Memory>
-    requires { block.at + block.size ≤ length items.now }
-    ensures { IfOk result (λ all. map view_value all.items ≡ without (map view_value items.now) block) }
-{
-    let mut all = copy_all(alloc, &items[..block.at])?;
-    copy_onto(alloc, &items[block.at + block.size..], &mut all)?;
-    Ok(all)
 }

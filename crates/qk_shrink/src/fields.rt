@@ -1,11 +1,13 @@
 //! The fields of makers, and the parts that have a value's own type.
 ghost use Rattle.std.specs.Prelude.{◌≡◌, ◌≤◌, length, map};
+ghost use Rattle.qk_value.specs.Data.{datas_of};
 ghost use Rattle.qk_value.specs.Kinds.{maker_of};
 ghost use Rattle.qk_value.specs.View.{view_type, view_value, view_values};
 ghost use Rattle.qk_shrink.specs.Candidates.{fields_of, is_made as is_made_of, own_part, own_parts};
 ghost use Rattle.qk_shrink.specs.Sought.{map_sought, sought};
 
 use crate::sought::Sought;
+use qk_eval::Shared;
 use qk_value::{Kinds, Ty, Value};
 
 /// The types of a maker's fields, none where there is no such maker.
@@ -51,8 +53,13 @@ fn count_one(kind: u32, ty: &Ty, part: &Value) -> u64
 }
 
 /// Part `k` among those that have the user type of that number.
-pub(crate) fn seek_own<'v>(kind: u32, types: &[Ty], parts: &'v [Value], k: u64) -> Sought<&'v Value>
-    ensures { map_sought (λ part. view_value part.now) result ≡ sought (own_parts kind (map view_type types.now) (view_values parts.now)) k }
+pub(crate) fn seek_own<'v>(
+    kind: u32,
+    types: &[Ty],
+    parts: &'v [Shared],
+    k: u64,
+) -> Sought<&'v Shared>
+    ensures { map_sought (λ part. part.now) result ≡ sought (own_parts kind (map view_type types.now) (datas_of parts.now)) k }
 {
     let shared = types.len().min(parts.len());
     let mut left = k;
@@ -65,8 +72,8 @@ pub(crate) fn seek_own<'v>(kind: u32, types: &[Ty], parts: &'v [Value], k: u64) 
     Sought::Past(left)
 }
 
-fn seek_one<'v>(kind: u32, ty: &Ty, part: &'v Value, k: u64) -> Sought<&'v Value>
-    ensures { map_sought (λ part. view_value part.now) result ≡ sought (own_part kind (view_type ty.now) (view_value part.now)) k }
+fn seek_one<'v>(kind: u32, ty: &Ty, part: &'v Shared, k: u64) -> Sought<&'v Shared>
+    ensures { map_sought (λ part. part.now) result ≡ sought (own_part kind (view_type ty.now) part.now) k }
 {
     if !is_made(ty, kind) {
         return Sought::Past(k);

@@ -1,9 +1,8 @@
 //! The candidates of the values of a property's binders, by number.
 ghost use Rattle.std.specs.Prelude.{◌≡◌, ◌≤◌, ◌<◌, ◌^◌, List, [], ◌∷◌, length, map, slice_get, Some, IfOk};
 ghost use Rattle.qk_eval.specs.Meaning.{called};
-ghost use Rattle.qk_value.specs.View.{view_value, view_values};
-ghost use Rattle.qk_eval.specs.Answers.{AreSmall, said};
-ghost use Rattle.qk_eval.specs.Parts.{items_of as items_of_data};
+ghost use Rattle.qk_value.specs.View.{view_value};
+ghost use Rattle.qk_eval.specs.Answers.{AreSmall, ended};
 ghost use Rattle.qk_shrink.specs.Spreads.{listed as listed_way, spread_over, in_turn, way_candidates, way_of, ways_of};
 ghost use Rattle.qk_shrink.specs.SpreadsView.{view_way};
 ghost use Rattle.qk_shrink.specs.Tuples.{answered, candidates};
@@ -11,11 +10,12 @@ ghost use Rattle.qk_shrink.specs.Sought.{map_sought, sought};
 
 use crate::copies::put_in_place;
 use crate::counting::value_count;
+use crate::plain::plain_all;
 use crate::seeking::seek;
 use crate::sought::Sought;
 use qk_base::{Memory, Seq};
 use qk_core::{Binder, Core, ShrinkBy};
-use qk_eval::{Answer, call};
+use qk_eval::{Ending, Shared, call_shared, shared_all};
 use qk_value::{Kinds, Ty, Value};
 use std::alloc::Global;
 use std::marker::Model;
@@ -28,7 +28,7 @@ const MOST: u64 = 1 << 40;
 pub(crate) enum Way<'a> {
     ByType(&'a Ty),
     /// The candidates themselves.
-    Listed(Seq<Value>),
+    Listed(Vec<Shared>),
 }
 
 /// What is prepared of the values of a property's binders, so that their candidates are found by number. A contract sees how each
@@ -69,13 +69,25 @@ impl<'a> Spread<'a> {
         ensures listed { IfOk result (λ spread. spread_over spread (map view_value values.now.items) ≡ candidates core.now binders.now.items (map view_value values.now.items) fuel) }
         ensures count { IfOk result (λ spread. spread.count ≡ length (candidates core.now binders.now.items (map view_value values.now.items) fuel)) }
     {
-        let ways = all_ways(alloc, core, binders.as_slice(), values.as_slice(), fuel)?;
-        let count = count_all(core.kinds(), ways.as_slice(), values.as_slice())?;
-        Ok(Spread {
-            kinds: core.kinds(),
-            ways,
-            count,
-        })
+        let shared = shared_all(alloc, values.as_slice())?;
+        let spread = prepare(alloc, core, binders, &shared, values.as_slice(), fuel)?;
+        Ok(spread)
+    }
+
+    /// `make` of shared values.
+    pub fn make_shared(
+        alloc: Global,
+        core: &'a Core,
+        binders: &'a Seq<Binder>,
+        values: &[Shared],
+        fuel: u32,
+    ) -> Result<Spread<'a>, Memory>
+        ensures listed { IfOk result (λ spread. spread_over spread values.now ≡ candidates core.now binders.now.items values.now fuel) }
+        ensures count { IfOk result (λ spread. spread.count ≡ length (candidates core.now binders.now.items values.now fuel)) }
+    {
+        let plain = plain_all(alloc, values)?;
+        let spread = prepare(alloc, core, binders, values, plain.as_slice(), fuel)?;
+        Ok(spread)
     }
 
     /// How many candidates there are.
@@ -93,20 +105,55 @@ impl<'a> Spread<'a> {
         values: &Seq<Value>,
         k: u64,
     ) -> Result<Seq<Value>, Memory>
-        requires { k < length (spread_over self.now (map view_value values.now.items)) }
+        requires number { k < length (spread_over self.now (map view_value values.now.items)) }
+        requires small { AreSmall (map view_value values.now.items) }
         ensures { IfOk result (λ candidate. slice_get (spread_over self.now (map view_value values.now.items)) k ≡ Some (map view_value candidate.items)) }
     {
-        match seek_all(
-            alloc,
-            self.kinds,
-            self.ways.as_slice(),
-            values.as_slice(),
-            k,
-        )? {
+        let shared = shared_all(alloc, values.as_slice())?;
+        let candidate = self.candidate_shared(alloc, &shared, k)?;
+        let plain = plain_all(alloc, &candidate)?;
+        Ok(plain)
+    }
+
+    /// `candidate` of shared values. Of a list it costs a step or two for each item up to the end of what the candidate changes, and
+    /// one more for each item to count them.
+    pub fn candidate_shared(
+        &self,
+        alloc: Global,
+        values: &[Shared],
+        k: u64,
+    ) -> Result<Vec<Shared>, Memory>
+        requires { k < length (spread_over self.now values.now) }
+        ensures { IfOk result (λ candidate. slice_get (spread_over self.now values.now) k ≡ Some candidate.items) }
+    {
+        match seek_all(alloc, self.kinds, self.ways.as_slice(), values, k)? {
             Sought::Here(candidate) => Ok(candidate),
             Sought::Past(_) => unreachable!(),
         }
     }
+}
+
+// The spread of values that are there as shared and as plain ones, of which the plain ones are counted.
+fn prepare<'a>(
+    alloc: Global,
+    core: &'a Core,
+    binders: &'a Seq<Binder>,
+    values: &[Shared],
+    plain: &[Value],
+    fuel: u32,
+) -> Result<Spread<'a>, Memory>
+    requires same { map view_value plain.now ≡ values.now }
+    requires small { AreSmall (map view_value plain.now) }
+    ensures listed { IfOk result (λ spread. spread_over spread values.now ≡ candidates core.now binders.now.items values.now fuel) }
+    ensures count { IfOk result (λ spread. spread.count ≡ length (candidates core.now binders.now.items values.now fuel)) }
+{
+    let ways = all_ways(alloc, core, binders.as_slice(), values, fuel)?;
+    let count = count_all(core.kinds(), ways.as_slice(), plain)?;
+    Ok(Spread {
+        kinds: core.kinds(),
+        ways,
+        count,
+    })
 }
 
 // How the candidates of each value come, binder by binder.
@@ -114,11 +161,10 @@ fn all_ways<'a>(
     alloc: Global,
     core: &Core,
     binders: &'a [Binder],
-    values: &[Value],
+    values: &[Shared],
     fuel: u32,
 ) -> Result<Seq<Way<'a>>, Memory>
-    requires { AreSmall (map view_value values.now) }
-    ensures { IfOk result (λ ways. map view_way ways.items ≡ ways_of core.now binders.now (map view_value values.now) fuel) }
+    ensures { IfOk result (λ ways. map view_way ways.items ≡ ways_of core.now binders.now values.now fuel) }
 {
     let shared = binders.len().min(values.len());
     let mut ways = Seq::make(alloc);
@@ -133,16 +179,15 @@ fn way_for<'a>(
     alloc: Global,
     core: &Core,
     binder: &'a Binder,
-    value: &Value,
+    value: &Shared,
     fuel: u32,
 ) -> Result<Way<'a>, Memory>
-    requires { AreSmall (view_value value.now ∷ []) }
-    ensures { IfOk result (λ way. view_way way ≡ way_of core.now fuel binder.now.ty binder.now.shrink (view_value value.now)) }
+    ensures { IfOk result (λ way. view_way way ≡ way_of core.now fuel binder.now.ty binder.now.shrink value.now) }
 {
     match binder.shrink {
         ShrinkBy::Builtin => Ok(Way::ByType(&binder.ty)),
         ShrinkBy::Function(function) => listed(alloc, core, function, value, fuel),
-        ShrinkBy::Nothing => Ok(Way::Listed(Seq::make(alloc))),
+        ShrinkBy::Nothing => Ok(Way::Listed(Vec::new(alloc))),
     }
 }
 
@@ -151,37 +196,28 @@ fn listed<'a>(
     alloc: Global,
     core: &Core,
     function: u32,
-    value: &Value,
+    value: &Shared,
     fuel: u32,
 ) -> Result<Way<'a>, Memory>
-    requires { AreSmall (view_value value.now ∷ []) }
-    ensures { IfOk result (λ way. view_way way ≡ listed_way (answered (called core.now.functions function (view_value value.now ∷ []) fuel))) }
+    ensures { IfOk result (λ way. view_way way ≡ listed_way (answered (called core.now.functions function (value.now ∷ []) fuel))) }
 {
-    let mut args = Seq::make(alloc);
-    args.add(value.copy(alloc)?)?;
-    let answer = call(alloc, core, function, &args, fuel)?;
-    Ok(Way::Listed(items_in(alloc, answer)))
+    let mut args = Vec::new(alloc);
+    args.push(value.share()?)?;
+    let ending = call_shared(alloc, core, function, args, fuel)?;
+    let items = items_in(alloc, &ending)?;
+    Ok(Way::Listed(items))
 }
 
 // The items of a list that was answered.
-fn items_in(alloc: Global, answer: Answer) -> Seq<Value>
-    ensures { map view_value result.items ≡ answered (said answer) }
+fn items_in(alloc: Global, ending: &Ending) -> Result<Vec<Shared>, Memory>
+    ensures { IfOk result (λ all. all.items ≡ answered (ended ending.now)) }
 {
-    match answer {
-        Answer::Value { value, left: _ } => items_of(alloc, value),
-        Answer::Crash(_) => Seq::make(alloc),
-    }
-}
-
-fn items_of(alloc: Global, value: Value) -> Seq<Value>
-    ensures { view_values result.items ≡ items_of_data (view_value value) }
-{
-    match value {
-        Value::List(items) => items,
-        Value::Int(_) => Seq::make(alloc),
-        Value::Bool(_) => Seq::make(alloc),
-        Value::Pair(_, _) => Seq::make(alloc),
-        Value::Made { .. } => Seq::make(alloc),
+    match ending {
+        Ending::Value { value, left: _ } => {
+            let items = value.items(alloc)?;
+            Ok(items)
+        }
+        Ending::Crash(_) => Ok(Vec::new(alloc)),
     }
 }
 
@@ -218,10 +254,10 @@ fn seek_all(
     alloc: Global,
     kinds: &Kinds,
     ways: &[Way],
-    values: &[Value],
+    values: &[Shared],
     k: u64,
-) -> Result<Sought<Seq<Value>>, Memory>
-    ensures { IfOk result (λ s. map_sought (λ all. map view_value all.items) s ≡ sought (in_turn kinds.now (map view_way ways.now) (map view_value values.now)) k) }
+) -> Result<Sought<Vec<Shared>>, Memory>
+    ensures { IfOk result (λ s. map_sought (λ all. all.items) s ≡ sought (in_turn kinds.now (map view_way ways.now) values.now) k) }
 {
     let shared = ways.len().min(values.len());
     let mut left = k;
@@ -241,23 +277,23 @@ fn seek_way(
     alloc: Global,
     kinds: &Kinds,
     way: &Way,
-    value: &Value,
+    value: &Shared,
     k: u64,
-) -> Result<Sought<Value>, Memory>
-    ensures { IfOk result (λ s. map_sought view_value s ≡ sought (way_candidates kinds.now (view_way way.now) (view_value value.now)) k) }
+) -> Result<Sought<Shared>, Memory>
+    ensures { IfOk result (λ s. s ≡ sought (way_candidates kinds.now (view_way way.now) value.now) k) }
 {
     match way {
         Way::ByType(ty) => seek(alloc, value, kinds, ty, k),
-        Way::Listed(items) => seek_listed(alloc, items.as_slice(), k),
+        Way::Listed(items) => seek_listed(items, k),
     }
 }
 
-fn seek_listed(alloc: Global, items: &[Value], k: u64) -> Result<Sought<Value>, Memory>
-    ensures { IfOk result (λ s. map_sought view_value s ≡ sought (map view_value items.now) k) }
+fn seek_listed(items: &[Shared], k: u64) -> Result<Sought<Shared>, Memory>
+    ensures { IfOk result (λ s. s ≡ sought items.now k) }
 {
     let length = items.len() as u64;
     if k < length {
-        return Ok(Sought::Here(items[k as usize].copy(alloc)?));
+        return Ok(Sought::Here(items[k as usize].share()?));
     }
     Ok(Sought::Past(k - length))
 }

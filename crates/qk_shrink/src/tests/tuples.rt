@@ -4,9 +4,11 @@ ghost use Rattle.qk_value.specs.View.{view_value};
 ghost use Rattle.qk_eval.specs.Answers.{AreSmall};
 
 use crate::Spread;
+use crate::plain::plain_all;
 use crate::tests::values::trees;
 use qk_base::{Bytes, Memory, Seq};
 use qk_core::{Binder, Core, Draw, Expr, Function, GenExpr, Op2, ShrinkBy};
+use qk_eval::shared_all;
 use qk_value::{Ty, Value};
 use std::alloc::Global;
 use std::test::Fail;
@@ -101,6 +103,25 @@ fn all(
     Ok(text)
 }
 
+// the same of shared values
+fn all_shared(
+    alloc: Global,
+    core: &Core,
+    binders: &Seq<Binder>,
+    values: &Seq<Value>,
+) -> Result<Bytes, Memory>
+    requires { AreSmall (map view_value values.now.items) }
+{
+    let mut text = Bytes::make(alloc);
+    let shared = shared_all(alloc, values.as_slice())?;
+    let spread = Spread::make_shared(alloc, core, binders, &shared, 1000)?;
+    for k in 0..spread.count() {
+        let others = spread.candidate_shared(alloc, &shared, k)?;
+        put(alloc, core, &plain_all(alloc, &others)?, &mut text)?;
+    }
+    Ok(text)
+}
+
 // how a number and a truth value are shrunk, the number, and the candidates
 const WANTED: [(ShrinkBy, ShrinkBy, i64, &str); 6] = [
     (
@@ -134,6 +155,8 @@ fn shrinks_binder_after_binder(rt: HostRuntime) -> Result<(), Fail> {
         let values = pair_of_values(rt.alloc(), number)?;
         let text = all(rt.alloc(), &core, &binders, &values)?;
         assert_eq!(rt; text.as_slice(), wanted.as_bytes());
+        let shared = all_shared(rt.alloc(), &core, &binders, &values)?;
+        assert_eq!(rt; shared.as_slice(), wanted.as_bytes());
     }
     Ok(())
 }

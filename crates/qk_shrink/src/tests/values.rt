@@ -3,8 +3,11 @@ ghost use Rattle.std.specs.Prelude.{IsTrue};
 ghost use Rattle.qk_value.specs.Measures.{IsSmall};
 ghost use Rattle.qk_value.specs.View.{view_value};
 
+use crate::seeking::seek;
+use crate::sought::Sought;
 use crate::{value_candidate, value_count};
 use qk_base::{Bytes, Memory, Seq};
+use qk_eval::Shared;
 use qk_value::{Kind, Kinds, Maker, Ty, Value};
 use std::alloc::Global;
 use std::test::Fail;
@@ -222,5 +225,39 @@ fn counts_a_long_list(rt: HostRuntime) -> Result<(), Fail> {
     let value = zeros(rt.alloc(), 10_000)?;
     let many = count(&kinds, &lists(rt.alloc())?, &value);
     assert_eq!(rt; many, 19_648);
+    Ok(())
+}
+
+// the number of a candidate of 10,000 zeros, and how many items the candidate has
+const LONG: [(u64, i64); 5] = [
+    (0, 0),
+    (1, 5_000),
+    (3, 7_500),
+    (19_647, 9_999),
+    (9_649, 9_999),
+];
+
+// how many items the candidate has that has the number
+fn length_of(alloc: Global, kinds: &Kinds, ty: &Ty, value: &Value, k: u64) -> Result<i64, Memory> {
+    if !is_small(value) {
+        return Ok(-1);
+    }
+    let shared = Shared::of_value(alloc, value)?;
+    match seek(alloc, &shared, kinds, ty, k)? {
+        Sought::Here(candidate) => Ok(candidate.length()),
+        Sought::Past(_) => Ok(-1),
+    }
+}
+
+#[test]
+fn finds_candidates_of_a_long_list(rt: HostRuntime) -> Result<(), Fail> {
+    let kinds = trees(rt.alloc())?;
+    let ty = lists(rt.alloc())?;
+    let value = zeros(rt.alloc(), 10_000)?;
+    for (k, wanted) in LONG {
+        let many = length_of(rt.alloc(), &kinds, &ty, &value, k)?;
+        assert_eq!(rt; many, wanted);
+    }
+    assert_eq!(rt; length_of(rt.alloc(), &kinds, &ty, &value, 19_648)?, -1);
     Ok(())
 }

@@ -1,6 +1,6 @@
 use Rattle.std.proofs.Common.{◌∙◌, arith, ap, sym}
 use Rattle.qk_shrink.specs.Sought.{sought}
-use Rattle.qk_shrink.proofs.PlaceLaws.{own_end}
+use Rattle.qk_shrink.proofs.PartLaws.{own_end}
 use Rattle.qk_shrink.proofs.fields.seek_own.Goals as goal
 
 pub returns : goal.returns

@@ -1,5 +1,4 @@
 use Rattle.std.proofs.Common.{◌∙◌, ◌+◌, map, drop, sym, ap, arith}
-use Rattle.qk_value.specs.View.{view_value}
 use Rattle.qk_shrink.specs.Sought.{sought, map_sought}
 use Rattle.qk_shrink.specs.Spreads.{in_turn, way_candidates}
 use Rattle.qk_shrink.specs.SpreadsView.{view_way}
@@ -14,9 +13,9 @@ returns-in-Here c =
     let i = c.loop-i.i in
     let way = c.index-ways-i.result in
     let value = c.index-values-i.result in
-    turn_here values c.in_ok-values-in-Here.values.items i value c.in-Here.value (way_candidates kinds (view_way way) (view_value value))
-    (in_turn kinds (map view_way (drop (i + 1) ways)) (map view_value (drop (i + 1) values)))
-    (in_turn kinds (map view_way (drop i ways)) (map view_value (drop i values))) c.loop-i.left c.in_ok-value.field-0 c.in_ok-values-in-Here.ensures c.in-Here.is c.in_ok-value.ensures
+    turn_here values c.in_ok-values-in-Here.values.items i value c.in-Here.value (way_candidates kinds (view_way way) value)
+    (in_turn kinds (map view_way (drop (i + 1) ways)) (drop (i + 1) values))
+    (in_turn kinds (map view_way (drop i ways)) (drop i values)) c.loop-i.left c.in_ok-value.field-0 c.in_ok-values-in-Here.ensures c.in-Here.is c.in_ok-value.ensures
     (turn_next kinds ways values i way value (omega (arith, c.min-shared.ensures, c.loop-i-test.true)) (omega (arith, c.min-shared.ensures, c.loop-i-test.true)) c.index-ways-i.is c.index-values-i.is)
     ∙ c.loop-i.invariant
 
@@ -28,9 +27,9 @@ loop-i-preserved c =
     let i = c.loop-i.i in
     let way = c.index-ways-i.result in
     let value = c.index-values-i.result in
-    turn_past values i value (way_candidates kinds (view_way way) (view_value value))
-    (in_turn kinds (map view_way (drop (i + 1) ways)) (map view_value (drop (i + 1) values)))
-    (in_turn kinds (map view_way (drop i ways)) (map view_value (drop i values))) c.loop-i.left c.in-Past.rest c.in_ok-value.field-0
+    turn_past values i value (way_candidates kinds (view_way way) value)
+    (in_turn kinds (map view_way (drop (i + 1) ways)) (drop (i + 1) values))
+    (in_turn kinds (map view_way (drop i ways)) (drop i values)) c.loop-i.left c.in-Past.rest c.in_ok-value.field-0
     (omega (arith, c.min-shared.ensures, c.loop-i-test.true)) c.index-values-i.is c.in-Past.is c.in_ok-value.ensures
     (turn_next kinds ways values i way value (omega (arith, c.min-shared.ensures, c.loop-i-test.true)) (omega (arith, c.min-shared.ensures, c.loop-i-test.true)) c.index-ways-i.is c.index-values-i.is)
     ∙ c.loop-i.invariant
