@@ -5,14 +5,12 @@ use Rattle.qk_core.specs.Definitions.{ModelData}
 use Rattle.qk_core.specs.Program.{ProgramData}
 use Rattle.qk_core.specs.Properties.{BinderData}
 use Rattle.qk_eval.proofs.UnitsLaws.{Within, called_within, meaning_within}
-use Rattle.qk_eval.specs.Answers.{AreSmall}
 use Rattle.qk_eval.specs.Meaning.{Evaluated, result, crash, and_then, or_crash, called, meaning}
 use Rattle.qk_eval.specs.Parts.{truth_of, small}
 use Rattle.qk_gen.proofs.UnitsLaws.{drawn_within}
 use Rattle.qk_gen.specs.Drawing.{drawn}
 use Rattle.qk_splitmix.specs.SplitMix.{Generator, left, right}
 use Rattle.qk_value.specs.Data.{Data, list, datas_of}
-use Rattle.qk_value.specs.Measures.{IsSmall}
 use Rattle.qk_command.specs.Drawing.{DrawnValues, turns, drawing_commands, binder_draws, after_drawing, drawn_from}
 
 one_more : (n : ℕ) (before : List Data) (x : Data) → length (before ++ x ∷ []) + n ≡ length before + suc n
@@ -57,8 +55,3 @@ turns_within c m size (suc n) before s g u most h =
 pub commands_within : (c : ProgramData) (m : ModelData) (size : ℕ) (g : Generator) (u : ℕ) → Within (drawing_commands c m size g u) u
 commands_within c m size g u =
     then_within (meaning c.functions m.init [] u) _ u u (le_refl u) (meaning_within c.functions m.init [] u) (λ s v k. turns_within c m size _ [] s (right g) v u k)
-
--- small values with one more
-pub small_push : (ds : List Data) (d : Data) → AreSmall ds → IsSmall d → AreSmall (ds ++ d ∷ [])
-small_push [] d are is = (is, tt)
-small_push (e ∷ ds) d are is = (are.0, small_push ds d are.1 is)

@@ -11,7 +11,7 @@ use crate::checking::model_at;
 use crate::turning::draw_commands_shared;
 use qk_base::{Cause, Memory, Seq};
 use qk_core::{Core, Draw, ModelDef, Property};
-use qk_eval::{Ending, Shared};
+use qk_eval::{Ending, Shared, plain_all};
 use qk_gen::draw_shared;
 use qk_splitmix::Gen;
 use qk_value::Value;
@@ -40,24 +40,11 @@ pub fn draw_all(
     ensures small { IfOk result (λ all. AreSmall (map view_value all.values.items)) }
 {
     let drawn = draw_all_shared(alloc, core, property, g, size, fuel)?;
-    let values = plain(alloc, &drawn.values)?;
+    let values = plain_all(alloc, &drawn.values)?;
     Ok(DrawnAll {
         values,
         crash: drawn.crash,
     })
-}
-
-// The values, no longer shared.
-fn plain(alloc: Global, shared: &[Shared]) -> Result<Seq<Value>, Memory>
-    ensures same { IfOk result (λ values. map view_value values.items ≡ shared.now) }
-    ensures small { IfOk result (λ values. AreSmall (map view_value values.items)) }
-{
-    let mut values = Seq::make(alloc);
-    for value in shared {
-        value.is_small();
-        values.add(value.to_value(alloc)?)?;
-    }
-    Ok(values)
 }
 
 /// `DrawnAll` over shared values.

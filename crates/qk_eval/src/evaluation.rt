@@ -155,3 +155,16 @@ pub fn shared_all(alloc: Global, values: &[Value]) -> Result<Vec<Shared>, Memory
     }
     Ok(all)
 }
+
+/// The values of shared ones, in order, no longer shared. They are small, as all shared values are.
+pub fn plain_all(alloc: Global, values: &[Shared]) -> Result<Seq<Value>, Memory>
+    ensures same { IfOk result (λ all. map view_value all.items ≡ values.now) }
+    ensures small { IfOk result (λ all. AreSmall (map view_value all.items)) }
+{
+    let mut all = Seq::make(alloc);
+    for value in values {
+        value.is_small();
+        all.add(value.to_value(alloc)?)?;
+    }
+    Ok(all)
+}

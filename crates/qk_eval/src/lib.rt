@@ -17,7 +17,9 @@ mod tests;
 
 pub use answer::Answer;
 pub use ending::Ending;
-pub use evaluation::{answered, call, call_shared, copied, eval, eval_shared, shared_all};
+pub use evaluation::{
+    answered, call, call_shared, copied, eval, eval_shared, plain_all, shared_all,
+};
 pub use form::Form;
 pub use lists::prepend;
 pub use shared::Shared;

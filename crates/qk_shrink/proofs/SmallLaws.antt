@@ -5,7 +5,6 @@ use Rattle.qk_value.specs.Data.{Data, int, bool, list, pair, made, Datas, end, m
 use Rattle.qk_value.specs.Kinds.{KindData}
 use Rattle.qk_value.specs.Measures.{weights, depth, depths, IsSmall}
 use Rattle.qk_value.specs.Types.{TypeData}
-use Rattle.qk_eval.specs.Answers.{AreSmall}
 use Rattle.qk_eval.specs.Parts.{items_of, joined}
 use Rattle.qk_shrink.specs.Blocks.{without}
 use Rattle.qk_shrink.specs.Candidates.{value_candidates, parts_in_place}
@@ -111,7 +110,3 @@ depths_joined (more d ds) es = omega (arith, depths_joined ds es)
 -- no first item of a small list is too deep
 pub shallow : (ds es : Datas) → IsSmall (list (joined ds es)) → depths ds < 200
 shallow ds es h = omega (arith, h.1, depths_joined ds es)
-
-pub small_push : (xs : List Data) (x : Data) → AreSmall xs → IsSmall x → AreSmall (xs ++ x ∷ [])
-small_push [] x h k = (k, tt)
-small_push (y ∷ ys) x h k = (h.0, small_push ys x h.1 k)

@@ -8,7 +8,6 @@ mod fields;
 mod laws;
 mod lists;
 mod numbers;
-mod plain;
 mod seeking;
 mod sought;
 mod spread;

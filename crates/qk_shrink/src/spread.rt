@@ -10,12 +10,11 @@ ghost use Rattle.qk_shrink.specs.Sought.{map_sought, sought};
 
 use crate::copies::put_in_place;
 use crate::counting::value_count;
-use crate::plain::plain_all;
 use crate::seeking::seek;
 use crate::sought::Sought;
 use qk_base::{Memory, Seq};
 use qk_core::{Binder, Core, ShrinkBy};
-use qk_eval::{Ending, Shared, call_shared, shared_all};
+use qk_eval::{Ending, Shared, call_shared, plain_all, shared_all};
 use qk_value::{Kinds, Ty, Value};
 use std::alloc::Global;
 use std::marker::Model;

@@ -4,11 +4,10 @@ ghost use Rattle.qk_value.specs.View.{view_value};
 ghost use Rattle.qk_eval.specs.Answers.{AreSmall};
 
 use crate::Spread;
-use crate::plain::plain_all;
 use crate::tests::values::trees;
 use qk_base::{Bytes, Memory, Seq};
 use qk_core::{Binder, Core, Draw, Expr, Function, GenExpr, Op2, ShrinkBy};
-use qk_eval::shared_all;
+use qk_eval::{plain_all, shared_all};
 use qk_value::{Ty, Value};
 use std::alloc::Global;
 use std::test::Fail;

@@ -3,14 +3,14 @@ use Rattle.std.proofs.lemmas.List.{map_push, take_more}
 use Rattle.qk_eval.specs.Answers.{AreSmall}
 use Rattle.qk_value.specs.Data.{Data}
 use Rattle.qk_value.specs.View.{view_value}
-use Rattle.qk_command.proofs.DrawingLaws.{small_push}
-use Rattle.qk_command.proofs.drawing.plain.Goals as goal
+use Rattle.qk_eval.proofs.AnswerLaws.{small_push}
+use Rattle.qk_eval.proofs.evaluation.plain_all.Goals as goal
 
 pub loop-value-preserved : goal.loop-value-preserved
 loop-value-preserved c =
-    let before = c.loop-value.values.items in
+    let before = c.loop-value.all.items in
     let x = c.value-item.result in
-    let shared = c.args.shared.now in
+    let shared = c.args.values.now in
     let i = c.loop-value.value-index in
     let added : map view_value c.add.new.self.items ≡ map view_value before ++ x ∷ [] =
     ap (map view_value) c.in_ok-add.ensures.ok ∙ map_push view_value before c.in_ok-to_value.field-0 ∙ ap (λ (y : Data). map view_value before ++ y ∷ []) c.in_ok-to_value.ensures in
