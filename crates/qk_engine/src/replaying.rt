@@ -71,12 +71,13 @@ fn replayed_reply(
     ensures { IfOk result (λ made. point_reply core.now property.now token.now (Some point) made.status made.text.items) }
 {
     let cause = cause_of_point(alloc, core, property, token.fuel, &point)?;
+    let values = point.plain_values(alloc)?;
     let failure = Failure {
         attempt: token.attempt,
         size: token.size,
         cause,
         drawing: point.crash.is_some(),
-        values: point.values,
+        values,
         path: path_of(alloc, token.path.as_slice())?,
         tried: None,
         limit_met: false,

@@ -2,5 +2,6 @@ pub mod CommittedCounts
 pub mod Failures
 pub mod Fitting
 pub mod Generators
+pub mod Sends
 pub mod Stepping
 pub mod Telling

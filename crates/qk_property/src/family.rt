@@ -1,17 +1,16 @@
 //! The points of a property as a family.
-ghost use Rattle.std.specs.Prelude.{◌≡◌, length, map, unwrap_or, IfOk};
+ghost use Rattle.std.specs.Prelude.{◌≡◌, length, unwrap_or, IfOk};
 ghost use Rattle.qk_base.specs.declared.outcome.Cause.TheVariants as causes;
 ghost use Rattle.qk_base.specs.Judged.{cause_of as cause_of_verdict};
 ghost use Rattle.qk_property.specs.Points.{cause_at, IsSmallPoint};
 ghost use Rattle.qk_property.specs.Spreads.{count_kept, listed_of};
-ghost use Rattle.qk_value.specs.View.{view_value};
 
 use crate::point::Point;
-use qk_base::{Cause, Family, Memory, Seq, Verdict};
-use qk_command::judge;
+use qk_base::{Cause, Family, Memory, Verdict};
+use qk_command::judge_shared;
 use qk_core::{Core, Property};
+use qk_eval::{Shared, copied};
 use qk_shrink::Spread;
-use qk_value::Value;
 use std::alloc::Global;
 
 /// The points of a property: its candidates are those of the values of its binders, and it fails where judging its values with so many
@@ -26,9 +25,9 @@ pub struct PropertyFamily<'c> {
 /// The candidates of a point, none where its drawing crashed.
 #[derive(Drop)]
 pub struct PointSpread<'c> {
-    values: Seq<Value>,
+    values: Vec<Shared>,
     spread: Option<Spread<'c>>,
-    ghost counted: { count_kept spread ≡ length (listed_of spread (map view_value values.items)) },
+    ghost counted: { count_kept spread ≡ length (listed_of spread values.items) },
 }
 
 impl<'c> PropertyFamily<'c> {
@@ -53,7 +52,7 @@ impl<'c> PropertyFamily<'c> {
         if let Some(cause) = point.crash {
             return Ok(Some(cause));
         }
-        let outcome = judge(alloc, self.core, self.property, &point.values, self.fuel)?;
+        let outcome = judge_shared(alloc, self.core, self.property, &point.values, self.fuel)?;
         Ok(cause_of(outcome.verdict))
     }
 }
@@ -83,16 +82,6 @@ fn cause_of(verdict: Verdict) -> Option<Cause>
     }
 }
 
-fn copies(alloc: Global, values: &[Value]) -> Result<Seq<Value>, Memory>
-    ensures { IfOk result (λ copies. map view_value copies.items ≡ map view_value values.now) }
-{
-    let mut copies = Seq::make(alloc);
-    for value in values {
-        copies.add(value.copy(alloc)?)?;
-    }
-    Ok(copies)
-}
-
 impl<'c> Family for PropertyFamily<'c> {
     ghost use Rattle.qk_property.specs.Points.{children_at, fails_at};
     ghost use Rattle.qk_property.specs.PointLaws.{children_are_small};
@@ -107,10 +96,10 @@ impl<'c> Family for PropertyFamily<'c> {
 
     ghost failing = { λ family. fails_at family.core.now family.property.now family.fuel };
 
-    ghost listed = { λ family spread. listed_of spread.spread (map view_value spread.values.items) };
+    ghost listed = { λ family spread. listed_of spread.spread spread.values.items };
 
     fn spread(&self, alloc: Global, point: &Point) -> Result<PointSpread<'c>, Memory> {
-        let values = copies(alloc, point.values.as_slice())?;
+        let values = copied(alloc, &point.values)?;
         let property = self.property;
         match point.crash {
             Some(_) => Ok(PointSpread {
@@ -118,7 +107,13 @@ impl<'c> Family for PropertyFamily<'c> {
                 spread: None,
             }),
             None => {
-                let spread = Spread::make(alloc, self.core, &property.binders, &values, self.fuel)?;
+                let spread = Spread::make_shared(
+                    alloc,
+                    self.core,
+                    &property.binders,
+                    &values,
+                    self.fuel,
+                )?;
                 Ok(PointSpread {
                     values,
                     spread: Some(spread),
@@ -138,7 +133,7 @@ impl<'c> Family for PropertyFamily<'c> {
         match &spread.spread {
             None => unreachable!(),
             Some(candidates) => Ok(Point {
-                values: candidates.candidate(alloc, &spread.values, k)?,
+                values: candidates.candidate_shared(alloc, &spread.values, k)?,
                 crash: None,
             }),
         }

@@ -125,7 +125,7 @@ fn ended_text(
 {
     let nothing = Minimum {
         point: Point {
-            values: Seq::make(alloc),
+            values: Vec::new(alloc),
             crash: None,
         },
         path: Seq::make(alloc),
@@ -160,19 +160,20 @@ fn told_text(
     requires run { IsTested settings.now core.now property.now tested.now }
     ensures { IfOk result (λ text. text.items ≡ property_block core.now.kinds number property.now (run_of (report_settings settings.now) core.now property.now).done (told (report_settings settings.now) core.now property.now minimum cause)) }
 {
-    let told = told_from(settings, tested, minimum, cause);
+    let told = told_from(alloc, settings, tested, minimum, cause)?;
     let text = property_text(alloc, core, number, &tested.tables, &told)?;
     Ok(text)
 }
 
 // What is told of a run with these last values and their cause.
 fn told_from(
+    alloc: Global,
     settings: &RunSettings,
     tested: &Tested<'_>,
     minimum: Minimum<Point>,
     cause: Cause,
-) -> Told
-    ensures { told_in result ≡ told_from settings.now tested.now minimum cause }
+) -> Result<Told, Memory>
+    ensures { IfOk result (λ told. told_in told ≡ told_from settings.now tested.now minimum cause) }
 {
     let Work {
         windows,
@@ -185,21 +186,21 @@ fn told_from(
         tried,
         limit_met,
     } = minimum;
-    let Point { values, crash } = point;
-    Told {
+    let values = point.plain_values(alloc)?;
+    Ok(Told {
         finish: tested.finish,
         successes: tested.state.successes,
         discards: tested.state.discards,
         values,
         cause,
-        drawing: crash.is_some(),
+        drawing: point.crash.is_some(),
         path,
         tried,
         limit_met,
         seed: settings.seed,
         fuel: settings.fuel,
         work: work_told(settings.work, (windows, rounds, trials)),
-    }
+    })
 }
 
 fn work_told(wanted: bool, work: (u64, u64, u64)) -> Option<(u64, u64, u64)>

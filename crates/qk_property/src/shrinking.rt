@@ -1,5 +1,6 @@
 //! The shrinking of a failing attempt.
 ghost use Rattle.std.specs.Prelude.{◌≡◌, ◌≤◌, ◌<◌, true, IfOk};
+ghost use Rattle.qk_eval.specs.Answers.{AreSmall};
 ghost use Rattle.qk_property.specs.Attempts.{drawn_at};
 ghost use Rattle.qk_property.specs.Points.{fails_at, IsSmallPoint};
 ghost use Rattle.qk_property.specs.Settings.{AreInRange, report_settings};
@@ -11,8 +12,9 @@ use crate::point::Point;
 use crate::settings::RunSettings;
 use crate::trial::generator_of;
 use qk_base::{Gate, Memory};
-use qk_command::{DrawnAll, draw_all};
+use qk_command::{Drawn, draw_all_shared};
 use qk_core::{Core, Property};
+use qk_eval::Shared;
 use qk_minimise::{Minimum, descend, greedy};
 use std::alloc::Global;
 use std::thread::Threads;
@@ -32,8 +34,18 @@ pub fn drawn_point(
     ensures small { IfOk result (λ point. IsSmallPoint point) }
 {
     let own = generator_of(seed, attempt);
-    let DrawnAll { values, crash } = draw_all(alloc, core, property, own, size, fuel)?;
+    let Drawn { values, crash } = draw_all_shared(alloc, core, property, own, size, fuel)?;
+    are_small(&values);
     Ok(Point { values, crash })
+}
+
+// That shared values are small, whatever they are.
+fn are_small(values: &[Shared])
+    ensures { AreSmall values.now }
+{
+    for value in values {
+        value.is_small();
+    }
 }
 
 /// Shrinks a failing point, by the descent or greedily.
