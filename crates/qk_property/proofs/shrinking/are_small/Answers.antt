@@ -1,6 +1,6 @@
 use Rattle.std.proofs.Common.{◌∙◌, ◌++◌, ◌∷◌, [], take, ap, sym, subst, List}
 use Rattle.std.proofs.lemmas.List.{take_more}
-use Rattle.qk_command.proofs.DrawingLaws.{small_push}
+use Rattle.qk_eval.proofs.AnswerLaws.{small_push}
 use Rattle.qk_eval.specs.Answers.{AreSmall}
 use Rattle.qk_value.specs.Data.{Data}
 use Rattle.qk_property.proofs.shrinking.are_small.Goals as goal
