@@ -6,17 +6,11 @@ use Rattle.qk_base.specs.declared.outcome.Cause.{Cause}
 use Rattle.qk_value.specs.Data.{Data, int, bool, list, pair, made, Datas, end, more, datas_of}
 use Rattle.qk_value.specs.Measures.{weights, weight, depths, depth, IsSmall}
 use Rattle.qk_value.specs.Order.{compare_all}
+use Rattle.qk_eval.specs.Falls.{weight_some, weights_joined, depths_joined}
 use Rattle.qk_eval.specs.Sizes.{data_size, datas_size}
 use Rattle.qk_value.specs.View.{view_value, view_values}
 use Rattle.qk_value.specs.declared.value.Value.{Value}
 use Rattle.qk_eval.specs.Parts.{count, joined, small, is_list, items_of}
-
-weight_some : (d : Data) → 1 ≤ weight d
-weight_some (int n) = omega arith
-weight_some (bool b) = omega arith
-weight_some (list ds) = omega arith
-weight_some (pair a b) = omega arith
-weight_some (made k m ds) = omega arith
 
 pub count_weights : (ds : Datas) → count ds ≤ weights ds
 count_weights end = omega arith
@@ -34,14 +28,6 @@ pub joined_end : (ds : Datas) → joined ds end ≡ ds
 joined_end end = refl
 joined_end (more d ds) = ap (more d) (joined_end ds)
 
-weights_joined : (ds es : Datas) → weights (joined ds es) ≡ weights ds + weights es
-weights_joined end es = omega arith
-weights_joined (more d ds) es = omega (arith, weights_joined ds es)
-
-depths_joined : (ds es : Datas) → depths (joined ds es) ≡ max (depths ds) (depths es)
-depths_joined end es = omega arith
-depths_joined (more d ds) es = omega (arith, depths_joined ds es)
-
 -- where the end of a list is refused, so is the list, for the same cause
 pub refused : (xs : List Data) (x : Data) (es : Datas) (c : Cause) → depths (datas_of xs) < 200 → depth x < 200 → depths es < 200 → small (list (more x es)) ≡ Err c → small (list (joined (datas_of xs) (more x es))) ≡ Err c
 refused xs x es c hxs hx hes h = grind (arith, nat_tests, weights_joined (datas_of xs) (more x es), depths_joined (datas_of xs) (more x es))
@@ -49,13 +35,6 @@ refused xs x es c hxs hx hes h = grind (arith, nat_tests, weights_joined (datas_
 pub depths_push : (xs : List Data) (x : Data) → depths (datas_of (xs ++ x ∷ [])) ≡ max (depth x) (depths (datas_of xs))
 depths_push [] x = omega arith
 depths_push (y ∷ ys) x = omega (arith, depths_push ys x)
-
-pub depth_items : (d : Data) → IsTrue (is_list d) → depth d ≡ depths (items_of d) + 1
-depth_items (list ds) h = refl
-depth_items (int n) h = cc
-depth_items (bool b) h = cc
-depth_items (pair a b) h = cc
-depth_items (made k m ds) h = cc
 
 pub items_count : (d : Data) → count (items_of d) ≤ weight d
 items_count (list ds) = omega (arith, count_weights ds)

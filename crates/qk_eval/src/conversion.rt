@@ -1,10 +1,11 @@
 //! From values to shared values and back.
 ghost use Rattle.std.specs.Prelude.{◌≡◌, ◌≤◌, ◌<◌, IfOk, map};
-ghost use Rattle.qk_value.specs.Data.{Data, list, datas_of, more};
+ghost use Rattle.qk_value.specs.Data.{Data, list, datas_of};
 ghost use Rattle.qk_value.specs.Measures.{weights, depths, IsSmall};
 ghost use Rattle.qk_value.specs.View.{view_value, view_values};
-ghost use Rattle.qk_eval.specs.Parts.{items_of};
+ghost use Rattle.qk_eval.specs.Forms.{to_come};
 
+use crate::items::Items;
 use crate::lists::prepend;
 use crate::shared::{Node, Shared};
 use qk_base::{Memory, Seq};
@@ -48,9 +49,8 @@ impl Shared {
         match &self.node {
             Node::Int(n) => Ok(Value::Int(*n)),
             Node::Bool(b) => Ok(Value::Bool(*b)),
-            Node::Nil => Ok(Value::List(Seq::make(alloc))),
-            Node::Cons(cell) => {
-                let items = list_to_values(&cell.first, &cell.second, alloc)?;
+            Node::Nil | Node::Cons(_) | Node::Row(..) => {
+                let items = items_to_values(Items::Of(self), alloc)?;
                 Ok(Value::List(items))
             }
             Node::Pair(cell) => {
@@ -94,22 +94,21 @@ pub(crate) fn of_values(alloc: Global, values: &[Value]) -> Result<Vec<Shared>, 
     Ok(all)
 }
 
-// A first item and a list's items as values.
+// The items as values.
 #[cycle(to_value)]
 #[tactic(auto, using(crate::proofs::ListLaws::view_push, crate::proofs::ListLaws::joined_end))]
-fn list_to_values(first: &Shared, rest: &Shared, alloc: Global) -> Result<Seq<Value>, Memory>
-    ensures { IfOk result (λ all. view_values all.items ≡ more first.now (items_of rest.now)) }
+fn items_to_values(items: Items, alloc: Global) -> Result<Seq<Value>, Memory>
+    ensures { IfOk result (λ all. view_values all.items ≡ to_come items.entry) }
 {
     let mut all = Seq::make(alloc);
-    all.add(first.to_value(alloc)?)?;
-    let mut left = rest;
+    let mut rest = items;
     'items: loop {
-        match &left.node {
-            Node::Cons(cell) => {
-                all.add(cell.first.to_value(alloc)?)?;
-                left = &cell.second;
+        match rest.next() {
+            Some((item, others)) => {
+                all.add(item.to_value(alloc)?)?;
+                rest = others;
             }
-            _ => return Ok(all),
+            None => return Ok(all),
         }
     }
 }

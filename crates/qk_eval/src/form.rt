@@ -1,7 +1,8 @@
 //! What a shared value is made of.
 ghost use Rattle.std.specs.Prelude.{◌≡◌};
-ghost use Rattle.qk_eval.specs.Forms.{data_in, IsProperForm};
+ghost use Rattle.qk_eval.specs.Forms.{data_in};
 
+use crate::items::Items;
 use crate::shared::{Node, Shared};
 
 /// What a shared value is made of, whose parts are lent.
@@ -9,10 +10,7 @@ use crate::shared::{Node, Shared};
 pub enum Form<'a> {
     Int(i64),
     Bool(bool),
-    /// The empty list.
-    Nil,
-    /// A list's first item, and the list of the others.
-    Cons(&'a Shared, &'a Shared),
+    List(Items<'a>),
     Pair(&'a Shared, &'a Shared),
     Made {
         kind: u32,
@@ -24,14 +22,12 @@ pub enum Form<'a> {
 impl Shared {
     /// What the value is made of, in a step.
     pub fn form(&self) -> Form<'_>
-        ensures whole { data_in result ≡ self.now }
-        ensures list { IsProperForm result }
+        ensures { data_in result ≡ self.now }
     {
         match &self.node {
             Node::Int(n) => Form::Int(*n),
             Node::Bool(b) => Form::Bool(*b),
-            Node::Nil => Form::Nil,
-            Node::Cons(cell) => Form::Cons(&cell.first, &cell.second),
+            Node::Nil | Node::Cons(_) | Node::Row(..) => Form::List(Items::Of(self)),
             Node::Pair(cell) => Form::Pair(&cell.first, &cell.second),
             Node::Made { kind, maker, parts } => Form::Made {
                 kind: *kind,

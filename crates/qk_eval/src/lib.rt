@@ -6,11 +6,13 @@ mod conversion;
 mod ending;
 mod evaluation;
 mod form;
+mod items;
 mod lists;
 mod machine;
 mod operators;
 mod order;
 mod pending;
+mod rows;
 mod shared;
 #[cfg(test)]
 mod tests;
@@ -21,5 +23,6 @@ pub use evaluation::{
     answered, call, call_shared, copied, eval, eval_shared, plain_all, shared_all,
 };
 pub use form::Form;
+pub use items::Items;
 pub use lists::prepend;
 pub use shared::Shared;

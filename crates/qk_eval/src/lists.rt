@@ -4,6 +4,8 @@ ghost use Rattle.qk_value.specs.Data.{Data, list, datas_of};
 ghost use Rattle.qk_value.specs.Measures.{depth, depths, IsSmall};
 ghost use Rattle.qk_eval.specs.Parts.{items_of, count, joined, is_list, small};
 
+use crate::items::Items;
+use crate::rows::{in_row, level_of};
 use crate::shared::{Node, Shared, depth_all, weight_all};
 use qk_base::{Cause, Memory};
 use std::alloc::Global;
@@ -23,7 +25,7 @@ impl Shared {
         self.depth
     }
 
-    /// The number of items, 0 for what is no list. It costs a step for each.
+    /// The number of items, 0 for what is no list. It costs a step for each that stands alone, and one for each row.
     pub fn length(&self) -> i64
         ensures { result ≡ pos (count (items_of self.now)) }
     {
@@ -35,6 +37,10 @@ impl Shared {
                 Node::Cons(cell) => {
                     passed += 1;
                     rest = &cell.second;
+                }
+                Node::Row(row, at) => {
+                    passed += (row.items.len() - *at) as u32;
+                    rest = &row.rest;
                 }
                 _ => return passed as i64,
             }
@@ -92,20 +98,36 @@ fn items_of(alloc: Global, list: &Shared) -> Result<Vec<Shared>, Memory>
     ensures { IfOk result (λ all. datas_of all.items ≡ items_of list.now) }
 {
     let mut all = Vec::new(alloc);
-    let mut rest = list;
+    let mut rest = Items::Of(list);
     'items: loop {
-        match &rest.node {
-            Node::Cons(cell) => {
-                all.push(cell.first.share()?)?;
-                rest = &cell.second;
+        match rest.next() {
+            Some((item, others)) => {
+                all.push(item.share()?)?;
+                rest = others;
             }
-            _ => return Ok(all),
+            None => return Ok(all),
         }
     }
 }
 
-/// These items and then a list's, unless the list is too heavy. No item is too deep.
+/// These items and then a list's, unless the list is too heavy. No item is too deep. Items of one depth stand side by side.
 pub fn prepend(
+    alloc: Global,
+    items: Vec<Shared>,
+    rest: Shared,
+) -> Result<Result<Shared, Cause>, Memory>
+    requires list { IsTrue (is_list rest) }
+    requires depth { depths (datas_of items.items) < 200 }
+    ensures { IfOk result (λ r. r ≡ small (list (joined (datas_of items.items) (items_of rest)))) }
+{
+    match level_of(&items) {
+        Some(level) => in_row(alloc, items, level, rest),
+        None => one_by_one(alloc, items, rest),
+    }
+}
+
+// These items, each before the list behind it.
+fn one_by_one(
     alloc: Global,
     items: Vec<Shared>,
     rest: Shared,

@@ -2,9 +2,11 @@
 ghost use Rattle.std.specs.Prelude.{◌≡◌};
 ghost use Rattle.qk_value.specs.Data.{Data, datas_of};
 ghost use Rattle.qk_value.specs.Order.{compare as compare_of, compare_all as compare_all_of, rank as rank_of};
-ghost use Rattle.qk_eval.specs.Nodes.{data_of};
+ghost use Rattle.qk_eval.specs.Forms.{data_in, to_come};
 
-use crate::shared::{Node, Shared};
+use crate::form::Form;
+use crate::items::Items;
+use crate::shared::Shared;
 use std::cmp::Ordering;
 
 impl Shared {
@@ -13,55 +15,64 @@ impl Shared {
     pub fn compare(&self, other: &Shared) -> Ordering
         ensures { result ≡ compare_of self.now other.now }
     {
-        let mut left = self;
-        let mut right = other;
-        'items: loop {
-            match (&left.node, &right.node) {
-                (Node::Cons(a), Node::Cons(b)) => {
-                    let order = a.first.compare(&b.first);
-                    if order != Ordering::Equal {
-                        return order;
-                    }
-                    left = &a.second;
-                    right = &b.second;
-                }
-                (Node::Pair(a), Node::Pair(b)) => {
-                    let order = a.first.compare(&b.first);
-                    return order.then(a.second.compare(&b.second));
-                }
-                (
-                    Node::Made { kind, maker, parts },
-                    Node::Made {
-                        kind: other_kind,
-                        maker: other_maker,
-                        parts: other_parts,
-                    },
-                ) => {
-                    let order = compare_all(parts, other_parts);
-                    return kind
-                        .cmp(other_kind)
-                        .then(maker.cmp(other_maker))
-                        .then(order);
-                }
-                (Node::Int(m), Node::Int(n)) => return m.cmp(n),
-                (Node::Bool(b), Node::Bool(c)) => return b.cmp(c),
-                (Node::Cons(_), Node::Nil) => return Ordering::Greater,
-                (Node::Nil, Node::Cons(_)) => return Ordering::Less,
-                (a, b) => return rank(a).cmp(&rank(b)),
+        match (self.form(), other.form()) {
+            (Form::Int(m), Form::Int(n)) => m.cmp(&n),
+            (Form::Bool(b), Form::Bool(c)) => b.cmp(&c),
+            (Form::List(xs), Form::List(ys)) => compare_items(xs, ys),
+            (Form::Pair(a, b), Form::Pair(c, d)) => {
+                let order = a.compare(c);
+                order.then(b.compare(d))
             }
+            (
+                Form::Made { kind, maker, parts },
+                Form::Made {
+                    kind: other_kind,
+                    maker: other_maker,
+                    parts: other_parts,
+                },
+            ) => {
+                let order = compare_all(parts, other_parts);
+                kind.cmp(&other_kind)
+                    .then(maker.cmp(&other_maker))
+                    .then(order)
+            }
+            (a, b) => rank(a).cmp(&rank(b)),
         }
     }
 }
 
-fn rank(node: &Node) -> u8
-    ensures { result ≡ rank_of (data_of node.now) }
+#[cycle(compare)]
+fn compare_items(items: Items, others: Items) -> Ordering
+    ensures { result ≡ compare_all_of (to_come items.entry) (to_come others.entry) }
 {
-    match node {
-        Node::Int(_) => 0,
-        Node::Bool(_) => 1,
-        Node::Nil | Node::Cons(_) => 2,
-        Node::Pair(_) => 3,
-        Node::Made { .. } => 4,
+    let mut xs = items;
+    let mut ys = others;
+    'items: loop {
+        match (xs.next(), ys.next()) {
+            (Some((x, more_xs)), Some((y, more_ys))) => {
+                let order = x.compare(y);
+                if order != Ordering::Equal {
+                    return order;
+                }
+                xs = more_xs;
+                ys = more_ys;
+            }
+            (Some(_), None) => return Ordering::Greater,
+            (None, Some(_)) => return Ordering::Less,
+            (None, None) => return Ordering::Equal,
+        }
+    }
+}
+
+fn rank(form: Form) -> u8
+    ensures { result ≡ rank_of (data_in form.entry) }
+{
+    match form {
+        Form::Int(_) => 0,
+        Form::Bool(_) => 1,
+        Form::List(_) => 2,
+        Form::Pair(..) => 3,
+        Form::Made { .. } => 4,
     }
 }
 

@@ -4,6 +4,7 @@ ghost use Rattle.qk_value.specs.Data.{Data, int, bool, list, pair as pair_of, ma
 ghost use Rattle.qk_value.specs.Measures.{weight as weight_of, weights as weights_of, depth as depth_of, depths as depths_of};
 ghost use Rattle.qk_eval.specs.Parts.{number_of, truth_of, is_list as is_list_of, parts_of, before, small, fits as fits_of};
 
+use crate::rows::bind_first;
 use qk_base::{Cause, Memory};
 use qk_core::Pattern;
 use std::alloc::Global;
@@ -25,6 +26,8 @@ pub(crate) enum Node {
     Bool(bool),
     Nil,
     Cons(Arc<Cell>),
+    /// A row's items from that place on, and then the items of its rest.
+    Row(Arc<Row>, usize),
     Pair(Arc<Cell>),
     Made {
         kind: u32,
@@ -40,6 +43,16 @@ pub(crate) struct Cell {
     pub(crate) second: Shared,
 }
 
+/// Items of one depth side by side, before a list.
+#[derive(Drop)]
+#[cycle(shared)]
+pub(crate) struct Row {
+    pub(crate) items: Vec<Shared>,
+    /// The depth of each item.
+    pub(crate) level: u64,
+    pub(crate) rest: Shared,
+}
+
 impl Model for Shared {
     ghost use Rattle.qk_value.specs.Data.{Data};
     ghost use Rattle.qk_value.specs.Code.{data_code};
@@ -51,17 +64,17 @@ impl Model for Shared {
     ghost use Rattle.std.specs.Prelude.{◌≡◌, ◌≤◌};
     ghost use Rattle.qk_value.specs.Measures.{weight as weight_of, depth as depth_of};
     ghost use Rattle.qk_eval.specs.Nodes.{data_of, IsProper};
-    ghost use Rattle.qk_eval.specs.Sizes.{data_size};
+    ghost use Rattle.qk_eval.specs.Sizes.{drop_size};
 
     ghost view = { λ a. data_of a.node };
 
     ghost invariant = { λ a. (a.weight ≡ weight_of (data_of a.node)) × (a.depth ≡ depth_of (data_of a.node)) × (a.weight ≤ 65536) × (a.depth ≤ 200) × IsProper a.node };
 
-    ghost size = { data_size };
+    ghost size = { drop_size };
 
     ghost use Rattle.qk_eval.specs.Falls.{falls};
 
-    ghost size_decreases = { λ a h. falls a.node h.4 };
+    ghost size_decreases = { λ a h. falls a.node a.weight h.0 h.2 h.4 };
 }
 
 // A long list is let go by a loop, since a derived drop would call itself for each item.
@@ -77,6 +90,16 @@ impl Drop for Shared {
             match node {
                 Node::Cons(cell) => match Arc::into_inner(cell) {
                     Some(Cell { first: _, second }) => self = second,
+                    None => return,
+                },
+                Node::Row(row, _) => match Arc::into_inner(row) {
+                    Some(
+                        Row {
+                            items: _,
+                            level: _,
+                            rest,
+                        },
+                    ) => self = rest,
                     None => return,
                 },
                 Node::Made {
@@ -135,6 +158,7 @@ impl Shared {
             Node::Bool(b) => Node::Bool(*b),
             Node::Nil => Node::Nil,
             Node::Cons(cell) => Node::Cons(cell.clone()?),
+            Node::Row(row, at) => Node::Row(row.clone()?, *at),
             Node::Pair(cell) => Node::Pair(cell.clone()?),
             Node::Made { kind, maker, parts } => Node::Made {
                 kind: *kind,
@@ -180,7 +204,7 @@ impl Shared {
     pub fn is_list(&self) -> bool
         ensures { result ≡ is_list_of self.now }
     {
-        matches!(&self.node, Node::Nil | Node::Cons(_))
+        matches!(&self.node, Node::Nil | Node::Cons(_) | Node::Row(..))
     }
 
     /// A list with one more item before it, in a step, unless it is too heavy or else too deep.
@@ -261,6 +285,7 @@ impl Shared {
     {
         match &self.node {
             Node::Cons(cell) => bind_two(&cell.first, &cell.second, env),
+            Node::Row(row, at) => bind_first(row, *at, self.weight, env),
             Node::Pair(cell) => bind_two(&cell.first, &cell.second, env),
             Node::Made { parts, .. } => bind_all(parts, env),
             _ => Ok(0),
@@ -274,6 +299,7 @@ impl Shared {
         match &self.node {
             Node::Nil => matches!(pattern, Pattern::Nil),
             Node::Cons(_) => matches!(pattern, Pattern::Cons),
+            Node::Row(..) => matches!(pattern, Pattern::Cons),
             Node::Pair(_) => matches!(pattern, Pattern::Pair),
             Node::Made { kind, maker, .. } => match pattern {
                 Pattern::Maker { kind: k, maker: m } => *kind == k && *maker == m,

@@ -7,6 +7,7 @@ mod bodies;
 mod calls;
 mod forms;
 mod notation;
+mod rows;
 mod told;
 mod wanted;
 

@@ -1,18 +1,20 @@
 -- One item or part of a shared value after another is replaced in its place.
 use Rattle.std.proofs.Common.{◌≡◌, ◌∙◌, ℕ, zero, suc, ◌+◌, ◌-◌, ◌<◌, ◌≤◌, min, List, [], ◌∷◌, ◌++◌, map, take, drop, length, get_or, refl, sym, ap, arith}
-use Rattle.qk_value.specs.Data.{Data, Datas, list, end, more, datas_of, listed_data}
+use Rattle.qk_value.specs.Data.{Data, int, bool, list, pair, made, Datas, end, more, datas_of, listed_data}
 use Rattle.qk_value.specs.Kinds.{KindData}
 use Rattle.qk_value.specs.Measures.{weights}
 use Rattle.qk_value.specs.Types.{TypeData}
 use Rattle.qk_value.specs.View.{view_type}
 use Rattle.qk_value.specs.declared.ty.Ty.{Ty}
-use Rattle.qk_eval.specs.Parts.{items_of, joined, before}
+use Rattle.qk_eval.specs.Parts.{items_of, joined}
+use Rattle.qk_eval.specs.Sizes.{data_size, datas_size}
 use Rattle.qk_eval.proofs.ListLaws.{joined_push}
 use Rattle.qk_shrink.specs.Candidates.{value_candidates, items_in_place, parts_in_place, own_part, own_parts}
 use Rattle.qk_shrink.specs.Sought.{sought, map_sought}
 use Rattle.qk_shrink.specs.declared.sought.Sought.{Sought}
 use Rattle.qk_shrink.specs.declared.sought.Sought.TheVariants.{Here, Past}
 use Rattle.qk_shrink.proofs.CountLaws.{weight_some}
+use Rattle.qk_shrink.proofs.SizeLaws.{again}
 use Rattle.qk_shrink.proofs.PlaceLaws.{placed, here_in_place, past_in_place, next, passed}
 
 pub parts_next : (kinds : List KindData) (ts : List Ty) (xs : List Data) (i : ℕ) (t : Ty) (x : Data) → i < length ts → i < length xs → t ≡ get_or ts i t → x ≡ get_or xs i x
@@ -102,6 +104,10 @@ one_more i = omega arith
 pub step_behind : (xs : List Data) (i : ℕ) (x : Data) (rest : List Data) → drop i xs ≡ x ∷ rest → drop (i + 1) xs ≡ rest
 step_behind xs i x rest h = ap (λ n. drop n xs) (one_more i) ∙ next_behind xs i x rest h
 
+-- what is behind an item, as data
+pub step_others : (xs : List Data) (i : ℕ) (x : Data) (rest : Datas) → drop i xs ≡ x ∷ listed_data rest → datas_of (drop (i + 1) xs) ≡ rest
+step_others xs i x rest h = ap datas_of (step_behind xs i x (listed_data rest) h) ∙ again rest
+
 step_front : (xs : List Data) (i : ℕ) (x : Data) (rest : List Data) → drop i xs ≡ x ∷ rest → take (i + 1) xs ≡ take i xs ++ x ∷ []
 step_front xs i x rest h = ap (λ n. take n xs) (one_more i) ∙ next_front xs i x rest h
 
@@ -121,6 +127,14 @@ item_past kinds t xs i x rest k left at h =
     ap (λ f. map_sought f (sought (items_in_place kinds t rest) left)) (more_front xs i x (listed_data rest) at)
     ∙ past_in_place more (after_front i xs) x rest (value_candidates kinds t x) (items_in_place kinds t rest) k left h
 
+-- the items are smaller than the value
+pub items_fall : (d : Data) → datas_size (items_of d) + 1 ≤ data_size d
+items_fall (list ds) = omega arith
+items_fall (int n) = omega arith
+items_fall (bool b) = omega arith
+items_fall (pair a b) = omega arith
+items_fall (made k m ds) = omega arith
+
 -- what is before an item is less than all
 pub within : (xs : List Data) (i : ℕ) (x : Data) (rest : List Data) → drop i xs ≡ x ∷ rest → i < length xs
 within [] zero x rest h = cc
@@ -137,11 +151,11 @@ pushed [] x ys = refl
 pushed (y ∷ xs) x ys = ap (λ zs. y ∷ zs) (pushed xs x ys)
 
 -- one more of the first items is taken
-pub took : (all next : List Data) (x y others rest : Data) (left : ℕ) (wanted : List Data) → 0 < left → before x others ≡ rest → next ≡ all ++ y ∷ [] → y ≡ x
-    → all ++ take left (listed_data (items_of rest)) ≡ wanted → next ++ take (left - 1) (listed_data (items_of others)) ≡ wanted
+pub took : (all next : List Data) (x y : Data) (others rest : Datas) (left : ℕ) (wanted : List Data) → 0 < left → more x others ≡ rest → next ≡ all ++ y ∷ [] → y ≡ x
+    → all ++ take left (listed_data rest) ≡ wanted → next ++ take (left - 1) (listed_data others) ≡ wanted
 took all next x y others rest zero wanted some is put same so_far = absurd (omega arith)
 took all next x y others rest (suc left) wanted some is put same so_far =
     let less : suc left - 1 ≡ left = omega arith in
-    let items = listed_data (items_of others) in
+    let items = listed_data others in
     (λ i. (put ∙ ap (λ z. all ++ z ∷ []) same) i ++ take (less i) items) ∙ pushed all x (take left items)
-    ∙ ap (λ d. all ++ take (suc left) (listed_data (items_of d))) is ∙ so_far
+    ∙ ap (λ ds. all ++ take (suc left) (listed_data ds)) is ∙ so_far

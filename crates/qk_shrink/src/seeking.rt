@@ -17,7 +17,7 @@ use crate::lists::{length_of, with_item, without_block};
 use crate::numbers::{seek_number, seek_truth};
 use crate::sought::Sought;
 use qk_base::Memory;
-use qk_eval::{Form, Shared};
+use qk_eval::{Form, Items, Shared};
 use qk_value::{Kinds, Ty, Value};
 use std::alloc::Global;
 
@@ -59,7 +59,7 @@ pub(crate) fn seek(
     match (ty, value.form()) {
         (Ty::Int, Form::Int(n)) => Ok(number(n, k)),
         (Ty::Bool, Form::Bool(b)) => Ok(truth(b, k)),
-        (Ty::List(item), Form::Cons(_, _)) => seek_list(alloc, value, kinds, item, k),
+        (Ty::List(item), Form::List(_)) => seek_list(alloc, value, kinds, item, k),
         (Ty::Pair(first, second), Form::Pair(a, b)) => {
             let pair = seek_pair(alloc, a, b, kinds, first, second, k)?;
             Ok(pair)
@@ -108,14 +108,14 @@ fn seek_items(
     ensures { IfOk result (λ s. s ≡ map_sought list (sought (items_in_place kinds.now (view_type ty.now) (items_of value.now)) k)) }
 {
     value.is_small();
-    let mut rest = value;
+    let mut rest = Items::Of(value);
     let mut at = 0usize;
     let mut left = k;
     'items: loop {
-        match rest.form() {
-            Form::Cons(first, others) => match seek(alloc, first, kinds, ty, left)? {
+        match rest.next() {
+            Some((first, others)) => match seek(alloc, first, kinds, ty, left)? {
                 Sought::Here(item) => {
-                    let replaced = with_item(alloc, value, at, item, others)?;
+                    let replaced = with_item(alloc, value, at, item)?;
                     return Ok(Sought::Here(replaced));
                 }
                 Sought::Past(past) => {
@@ -124,7 +124,7 @@ fn seek_items(
                     left = past;
                 }
             },
-            _ => return Ok(Sought::Past(left)),
+            None => return Ok(Sought::Past(left)),
         }
     }
 }

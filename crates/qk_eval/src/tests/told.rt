@@ -1,6 +1,6 @@
 //! What shared values are told to be made of.
 
-use crate::{Form, Shared};
+use crate::{Form, Items, Shared};
 use qk_base::{Cause, Memory};
 use std::alloc::Global;
 use std::test::Fail;
@@ -10,8 +10,7 @@ fn told(value: &Shared) -> (i64, i64, i64) {
     match value.form() {
         Form::Int(_) => (1, 0, 0),
         Form::Bool(_) => (2, 0, 0),
-        Form::Nil => (3, 0, 0),
-        Form::Cons(first, rest) => (4, part(first), part(rest)),
+        Form::List(items) => told_list(items),
         Form::Pair(first, second) => (5, part(first), part(second)),
         Form::Made {
             kind: 2,
@@ -26,8 +25,18 @@ fn part(value: &Shared) -> i64 {
     match value.form() {
         Form::Int(_) => 1,
         Form::Bool(_) => 2,
-        Form::Nil => 3,
-        _ => 4,
+        Form::List(items) => if items.next().is_none() { 3 } else { 4 },
+        _ => 5,
+    }
+}
+
+fn told_list(items: Items) -> (i64, i64, i64) {
+    match items.next() {
+        None => (3, 0, 0),
+        Some((first, others)) => {
+            let more = if others.next().is_none() { 3 } else { 4 };
+            (4, part(first), more)
+        }
     }
 }
 

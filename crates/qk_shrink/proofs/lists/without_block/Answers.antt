@@ -1,4 +1,4 @@
-use Rattle.std.proofs.Common.{◌∙◌, ap, arith}
+use Rattle.std.proofs.Common.{◌∙◌, arith}
 use Rattle.qk_value.specs.Data.{listed_data}
 use Rattle.qk_eval.specs.Parts.{items_of}
 use Rattle.qk_shrink.proofs.PartLaws.{length_listed}
@@ -13,10 +13,10 @@ overflow_add-block c =
 pub joined_list-requires-clause-small : goal.joined_list-requires-clause-small
 joined_list-requires-clause-small c =
     small_without c.args.value.now c.args.block c.in_ok-items.items.items (items_of c.in_ok-rest.rest) c.is_small.ensures c.in_ok-items.ensures
-    (ap (λ d. listed_data (items_of d)) c.in_ok-rest.ensures ∙ c.behind.ensures.rest)
+    c.in_ok-rest.ensures.rest
 
 pub returns : goal.returns
 returns c =
     c.in_ok-others.ensures
     ∙ is_without c.args.value.now c.args.block c.in_ok-items.items.items (items_of c.in_ok-rest.rest) c.in_ok-items.ensures
-    (ap (λ d. listed_data (items_of d)) c.in_ok-rest.ensures ∙ c.behind.ensures.rest)
+    c.in_ok-rest.ensures.rest

@@ -1,20 +1,20 @@
-use Rattle.std.proofs.Common.{◌∙◌, ◌+◌, ◌<◌, ◌++◌, length, drop, map, sym, ap, subst, arith, Vec}
+use Rattle.std.proofs.Common.{◌∙◌, ◌+◌, ◌<◌, ◌++◌, length, take, drop, map, refl, sym, ap, subst, arith, Vec}
 use Rattle.std.specs.declared.alloc.Global.{Global}
 use Rattle.std.proofs.lemmas.Grind.{common_steps}
-use Rattle.qk_value.specs.Data.{Data, Datas, pair, made, datas_of, listed_data}
+use Rattle.qk_value.specs.Data.{Data, Datas, list, pair, made, more, datas_of, listed_data}
 use Rattle.qk_value.specs.Measures.{IsSmall}
 use Rattle.qk_value.specs.Kinds.{maker_of}
 use Rattle.qk_value.specs.View.{view_type}
-use Rattle.qk_eval.specs.Falls.{rest_falls}
-use Rattle.qk_eval.specs.Parts.{items_of}
-use Rattle.qk_eval.specs.Sizes.{data_size}
+use Rattle.qk_eval.specs.Forms.{to_come}
+use Rattle.qk_eval.specs.Parts.{items_of, joined}
+use Rattle.qk_eval.specs.Sizes.{datas_size}
 use Rattle.qk_eval.proofs.ListLaws.{item_falls}
 use Rattle.qk_shrink.specs.Candidates.{fields_of, own_parts, value_candidates, items_in_place, parts_in_place}
 use Rattle.qk_shrink.specs.Sought.{sought, map_sought}
 use Rattle.qk_shrink.specs.declared.sought.Sought.{Sought}
 use Rattle.qk_shrink.specs.declared.sought.Sought.TheVariants.{Here, Past}
 use Rattle.qk_shrink.proofs.FormLaws.{pair_data}
-use Rattle.qk_shrink.proofs.PartLaws.{after_front, step_behind, item_here, item_past, within, length_listed, place_here, place_past, parts_next}
+use Rattle.qk_shrink.proofs.PartLaws.{after_front, items_fall, step_behind, step_others, item_here, item_past, within, length_listed, place_here, place_past, parts_next}
 use Rattle.qk_shrink.proofs.SeekLaws.{pair_first, pair_second, list_first, list_second, made_second}
 use Rattle.qk_shrink.proofs.SmallLaws.{small_items, small_item, small_first, small_second, small_parts}
 use Rattle.qk_shrink.proofs.SoughtLaws.{in_first}
@@ -29,44 +29,58 @@ seek-returns-in_ok-pair-in-Pair-Pair t c =
     let b = p.b.now in
     c.in_ok-pair-in-Pair-Pair.ensures
     ∙ (λ i. sought (map (λ c. pair c b) (value_candidates kinds (view_type (c.deref-in-Pair-Pair.ensures i)) a) ++ map (pair a) (value_candidates kinds (view_type (c.deref-in-Pair-Pair-2.ensures i)) b)) k)
-    ∙ ap (λ l. sought l k) (sym (pair_data kinds c.args.ty.now c.args.value.now p.first p.second a b p.is-0 (sym p.ensures.whole)))
+    ∙ ap (λ l. sought l k) (sym (pair_data kinds c.args.ty.now c.args.value.now p.first p.second a b p.is-0 (sym p.ensures)))
+
+pub seek_items-items-init : goal.seek_items-items-init
+seek_items-items-init t c = record { falls = items_fall c.args.value.now; behind = refl; whole = refl }
+
+pub seek_items-with_item-requires-clause-place : goal.seek_items-with_item-requires-clause-place
+seek_items-with_item-requires-clause-place t c =
+    let at = c.items.invariant.behind ∙ ap listed_data (sym c.in-Some.ensures) in
+    within (listed_data (items_of c.args.value.now)) c.items.at c.in-Some.first.now (listed_data (to_come c.in-Some.others)) at
 
 pub seek_items-with_item-requires-clause-small : goal.seek_items-with_item-requires-clause-small
 seek_items-with_item-requires-clause-small t c =
-    small_item c.args.kinds.now (view_type c.args.ty.now) c.args.value.now c.items.at c.in-Cons.first.now (items_of c.in-Cons.others.now) c.items.left c.in-Here.item c.is_small.ensures
-    (c.items.invariant.behind ∙ ap (λ d. listed_data (items_of d)) (sym c.in-Cons.ensures.whole))
-    (sym c.in-Here.is ∙ c.in_ok-item-in-Cons.ensures)
+    let value = c.args.value.now in
+    let xs = listed_data (items_of value) in
+    let at = c.items.invariant.behind ∙ ap listed_data (sym c.in-Some.ensures) in
+    let others = step_others xs c.items.at c.in-Some.first.now (to_come c.in-Some.others) at in
+    subst (λ (ds : Datas). IsSmall (list (joined (datas_of (take c.items.at xs)) (more c.in-Here.item ds)))) (sym others)
+    (small_item c.args.kinds.now (view_type c.args.ty.now) value c.items.at c.in-Some.first.now (to_come c.in-Some.others) c.items.left c.in-Here.item c.is_small.ensures at
+    (sym c.in-Here.is ∙ c.in_ok-item-in-Some.ensures))
 
 pub seek_items-returns-in-Here : goal.seek_items-returns-in-Here
 seek_items-returns-in-Here t c =
     let kinds = c.args.kinds.now in
     let ty = view_type c.args.ty.now in
     let xs = listed_data (items_of c.args.value.now) in
-    ap Here c.in_ok-replaced-in-Here.ensures
-    ∙ item_here kinds ty xs c.items.at c.in-Cons.first.now (items_of c.in-Cons.others.now) c.items.left c.in-Here.item (sym c.in-Here.is ∙ c.in_ok-item-in-Cons.ensures)
-    ∙ ap (λ d. map_sought (after_front c.items.at xs) (sought (items_in_place kinds ty (items_of d)) c.items.left)) c.in-Cons.ensures.whole
+    let at = c.items.invariant.behind ∙ ap listed_data (sym c.in-Some.ensures) in
+    let others = step_others xs c.items.at c.in-Some.first.now (to_come c.in-Some.others) at in
+    ap Here (c.in_ok-replaced-in-Here.ensures ∙ ap (λ ds. after_front c.items.at xs (more c.in-Here.item ds)) others)
+    ∙ item_here kinds ty xs c.items.at c.in-Some.first.now (to_come c.in-Some.others) c.items.left c.in-Here.item (sym c.in-Here.is ∙ c.in_ok-item-in-Some.ensures)
+    ∙ ap (λ ds. map_sought (after_front c.items.at xs) (sought (items_in_place kinds ty ds) c.items.left)) c.in-Some.ensures
     ∙ c.items.invariant.whole
 
 pub seek_items-overflow_add-at : goal.seek_items-overflow_add-at
 seek_items-overflow_add-at t c =
     let value = c.args.value.now in
-    let at = c.items.invariant.behind ∙ ap (λ d. listed_data (items_of d)) (sym c.in-Cons.ensures.whole) in
+    let at = c.items.invariant.behind ∙ ap listed_data (sym c.in-Some.ensures) in
     let small = small_items value c.is_small.ensures in
-    omega (arith, within (listed_data (items_of value)) c.items.at c.in-Cons.first.now (listed_data (items_of c.in-Cons.others.now)) at, length_listed (items_of value), small.0)
+    omega (arith, within (listed_data (items_of value)) c.items.at c.in-Some.first.now (listed_data (to_come c.in-Some.others)) at, length_listed (items_of value), small.0)
 
 pub seek_items-items-preserved : goal.seek_items-items-preserved
 seek_items-items-preserved t c =
     let kinds = c.args.kinds.now in
     let ty = view_type c.args.ty.now in
     let xs = listed_data (items_of c.args.value.now) in
-    let first = c.in-Cons.first.now in
-    let others = c.in-Cons.others.now in
-    let at = c.items.invariant.behind ∙ ap (λ d. listed_data (items_of d)) (sym c.in-Cons.ensures.whole) in
+    let first = c.in-Some.first.now in
+    let others = to_come c.in-Some.others in
+    let at = c.items.invariant.behind ∙ ap listed_data (sym c.in-Some.ensures) in
     record {
-      falls = omega (arith, rest_falls first others c.in-Cons.ensures.list, ap data_size c.in-Cons.ensures.whole, c.items.invariant.falls);
-      behind = step_behind xs c.items.at first (listed_data (items_of others)) at;
-      whole = item_past kinds ty xs c.items.at first (items_of others) c.items.left c.in-Past.past at (sym c.in-Past.is ∙ c.in_ok-item-in-Cons.ensures)
-          ∙ ap (λ d. map_sought (after_front c.items.at xs) (sought (items_in_place kinds ty (items_of d)) c.items.left)) c.in-Cons.ensures.whole
+      falls = omega (arith, ap datas_size c.in-Some.ensures, c.items.invariant.falls);
+      behind = step_behind xs c.items.at first (listed_data others) at;
+      whole = item_past kinds ty xs c.items.at first others c.items.left c.in-Past.past at (sym c.in-Past.is ∙ c.in_ok-item-in-Some.ensures)
+          ∙ ap (λ ds. map_sought (after_front c.items.at xs) (sought (items_in_place kinds ty ds) c.items.left)) c.in-Some.ensures
           ∙ c.items.invariant.whole;
     }
 

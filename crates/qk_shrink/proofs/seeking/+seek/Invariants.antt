@@ -2,6 +2,7 @@
 use Rattle.std.proofs.Common.{◌≡◌, ◌≤◌, ◌+◌, ◌*◌, map, take, drop}
 use Rattle.qk_value.specs.Data.{list, datas_of, listed_data}
 use Rattle.qk_value.specs.View.{view_type}
+use Rattle.qk_eval.specs.Forms.{to_come}
 use Rattle.qk_eval.specs.Parts.{items_of, joined}
 use Rattle.qk_eval.specs.Sizes.{data_size, datas_size}
 use Rattle.qk_shrink.specs.Candidates.{items_in_place, parts_in_place}
@@ -11,14 +12,14 @@ use Rattle.qk_shrink.proofs.seeking.+seek.Given as goal
 
 abbrev pub invariant-seek_items-items : goal.invariant-seek_items-items
 invariant-seek_items-items l = record {
-  falls : data_size l.rest ≤ data_size l.fn.value;
-  behind : drop l.at (listed_data (items_of l.fn.value)) ≡ listed_data (items_of l.rest);
-  whole : map_sought (after_front l.at (listed_data (items_of l.fn.value))) (sought (items_in_place l.kinds (view_type l.ty) (items_of l.rest)) l.left)
+  falls : datas_size (to_come l.rest) + 1 ≤ data_size l.fn.value;
+  behind : drop l.at (listed_data (items_of l.fn.value)) ≡ listed_data (to_come l.rest);
+  whole : map_sought (after_front l.at (listed_data (items_of l.fn.value))) (sought (items_in_place l.kinds (view_type l.ty) (to_come l.rest)) l.left)
       ≡ map_sought list (sought (items_in_place l.kinds (view_type l.ty) (items_of l.fn.value)) l.fn.k);
 }
 
 abbrev pub decreases-seek_items-items : goal.decreases-seek_items-items
-decreases-seek_items-items l = data_size l.rest
+decreases-seek_items-items l = datas_size (to_come l.rest)
 
 abbrev pub invariant-seek_parts-loop-i : goal.invariant-seek_parts-loop-i
 invariant-seek_parts-loop-i l =

@@ -2,7 +2,7 @@ use Rattle.std.proofs.Common.{◌≡◌, ◌<◌, IsTrue, length}
 use Rattle.qk_value.specs.Data.{datas_of}
 use Rattle.qk_value.specs.Measures.{depths}
 use Rattle.qk_eval.specs.Parts.{items_of, is_list, joined}
-use Rattle.qk_eval.proofs.lists.prepend.Given as goal
+use Rattle.qk_eval.proofs.lists.one_by_one.Given as goal
 
 abbrev pub invariant-items : goal.invariant-items
 invariant-items l = record {
