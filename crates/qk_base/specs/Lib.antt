@@ -1,9 +1,10 @@
-pub mod Different
+pub mod Calm
 pub mod Faults
 pub mod Gains
 pub mod Growing
 pub mod Judged
 pub mod Lending
+pub mod Order
 pub mod Places
 pub mod Sheet
 pub mod Shelf

@@ -2,6 +2,8 @@
 #![tactic(auto)]
 
 mod bytes;
+mod calm_library;
+mod calm_sink;
 mod family;
 mod fault;
 mod gate;
@@ -18,10 +20,10 @@ mod seq;
 mod sink;
 mod status;
 mod tally;
-#[cfg(test)]
-mod tests;
 
 pub use bytes::Bytes;
+pub use calm_library::CalmLibrary;
+pub use calm_sink::CalmSink;
 pub use family::Family;
 pub use fault::{Failed, Fault, Memory};
 pub use gate::{Gate, OpenGate};

@@ -1,9 +1,10 @@
 //! A gate that forces an order on trials.
-ghost use Rattle.std.specs.Prelude.{◌≤◌, ◌<◌, length, IfSome, IsTrue};
-ghost use Rattle.qk_base.specs.Different.{all_different};
+ghost use Rattle.std.specs.Prelude.{◌≡◌, ◌≤◌, ◌<◌, length, IfSome, IsTrue, Some, slice_get};
+ghost use Rattle.qk_base.specs.Order.{all_different};
 
 use crate::gate::Gate;
 use crate::seq::Seq;
+use std::marker::Model;
 use std::sync::atomic::{AtomicU64, Ordering};
 
 /// Where the count of entries stands still.
@@ -11,7 +12,7 @@ const MANY: u64 = 1 << 62;
 
 /// A gate that lets the first entries of some numbers in by an order: the first entry of the number at place i is held until i
 /// entries were let in, for at most some number of loads. Every other entry is let in at once. A tool for tests: it means nothing for
-/// any answer.
+/// any answer. Contracts see it as its order and how many loads it waits.
 #[derive(Drop)]
 pub struct OrderGate {
     order: Seq<u32>,
@@ -21,7 +22,17 @@ pub struct OrderGate {
     let_in: AtomicU64,
     // Not 0 once an entry was let in because its turns had run out.
     late: AtomicU64,
-    ghost few: { length order.items ≤ 64 },
+}
+
+impl Model for OrderGate {
+    ghost use Rattle.std.specs.Prelude.{◌≤◌, length, IsTrue};
+    ghost use Rattle.qk_base.specs.Order.{Order, all_different};
+
+    ghost Value = { Order };
+
+    ghost view = { λ g. record { order = g.order.items; turns = g.turns } };
+
+    ghost invariant = { λ g. (length g.order.items ≤ 64) × IsTrue (all_different g.order.items) };
 }
 
 impl OrderGate {
@@ -29,6 +40,7 @@ impl OrderGate {
     pub fn make(order: Seq<u32>, turns: u64) -> OrderGate
         requires few { length order.items ≤ 64 }
         requires different { IsTrue (all_different order.items) }
+        ensures { result ≡ record { order = order.items; turns = turns } }
     {
         OrderGate {
             order,
@@ -47,7 +59,8 @@ impl OrderGate {
 
     /// The place of a number in the order.
     fn place(&self, number: u32) -> Option<usize>
-        ensures { IfSome result (λ place. place < length self.now.order.items) }
+        ensures few { IfSome result (λ place. place < 64) }
+        ensures stands { IfSome result (λ place. slice_get self.now.order place ≡ Some number) }
     {
         for (place, next) in self.order.as_slice().iter().enumerate() {
             if *next == number {

@@ -6,8 +6,6 @@ mod board;
 mod layout;
 mod seat;
 mod strides;
-#[cfg(test)]
-mod tests;
 mod view;
 
 pub use blocks::Blocks;

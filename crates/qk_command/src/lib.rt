@@ -13,8 +13,6 @@ mod marking;
 mod noting;
 mod running;
 mod step;
-#[cfg(test)]
-mod tests;
 mod turning;
 
 pub use attempting::attempt;

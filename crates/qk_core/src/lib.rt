@@ -6,8 +6,6 @@ mod definitions;
 mod expr;
 mod gen_expr;
 mod property;
-#[cfg(test)]
-mod tests;
 
 pub use checked::Core;
 pub use definitions::{Function, ModelDef, UserGen};

@@ -1,5 +1,5 @@
 -- The lines of a generated file that are left.
-use Rattle.std.proofs.Common.{◌≡◌, ◌∙◌, ℕ, zero, suc, ◌+◌, ◌-◌, ◌<◌, ◌≤◌, List, [], ◌++◌, refl, sym, ap, append_assoc, append-nil, arith}
+use Rattle.std.proofs.Common.{◌≡◌, ◌∙◌, ℕ, suc, ◌+◌, ◌-◌, ◌<◌, ◌≤◌, List, ◌++◌, sym, ap, append_assoc, append-nil, arith}
 use Rattle.qk_engine.specs.Generated.{lines_from, property_line}
 
 left_is : (count i : ℕ) → i < count → lines_from i (count - i) ≡ property_line i ++ lines_from (i + 1) (count - (i + 1))

@@ -1,6 +1,15 @@
 pub mod GeneratedLines
+pub mod GeneratedNames
+pub mod GeneratedProgram
+pub mod GeneratedReadable
+pub mod GeneratedStands
+pub mod GeneratedText
+pub mod GeneratedTrees
 pub mod Joined
+pub mod OneReply
+pub mod PlacedTrees
 pub mod ProgramLaws
 pub mod ReadingLaws
 pub mod Replies
+pub mod SomeReply
 pub mod WordsReplies

@@ -1,8 +1,7 @@
 -- What the front of a file says of the whole, and what a reply tells.
-use Rattle.std.proofs.Common.{◌≡◌, ◌⊎◌, ℕ, ◌+◌, ◌<◌, ◌∙◌, Bool, true, false, nat_eq, if◌then◌else◌, Ok, List, [], ◌∷◌, Option, Some, None, take, length, slice_get, arith, refl, sym, ap, subst, inl, inr}
+use Rattle.std.proofs.Common.{◌≡◌, ℕ, ◌+◌, ◌<◌, ◌∙◌, Bool, true, false, nat_eq, if◌then◌else◌, List, Option, Some, None, take, length, slice_get, arith, refl, sym, ap, subst, inl, inr}
 use Rattle.std.proofs.lemmas.Bool.{cases_lt, lt-ltb}
 use Rattle.std.proofs.lemmas.List.{take_all, length-take-le}
-use Rattle.std.specs.Result.{result_err}
 use Rattle.qk_base.specs.declared.place.Refusal.{Refusal}
 use Rattle.qk_base.specs.declared.status.Status.{Status}
 use Rattle.qk_base.specs.declared.status.Status.TheVariants as status
@@ -13,17 +12,19 @@ use Rattle.qk_property.specs.Settings.{ReportSettings}
 use Rattle.qk_report.specs.Token.{TokenData}
 use Rattle.qk_syntax.specs.Places.{start}
 use Rattle.qk_syntax.specs.PlainTrees.{PlainTrees}
-use Rattle.qk_syntax.specs.Spelling.{Spells}
 use Rattle.qk_syntax.specs.TextFault.{text_fault, fault}
 use Rattle.qk_syntax.proofs.TextRead.{spelled_has_no_fault, one_spelling}
-use Rattle.qk_types.specs.Elaboration.{elaborated}
-use Rattle.qk_words.specs.SettingsData.{SettingsData, AimData, whole, replayed, generated}
+use Rattle.qk_types.specs.Elaboration.{type_fault}
+use Rattle.qk_wellformed.specs.StandsFor.{StandsFor}
+use Rattle.qk_wellformed.proofs.ProgramsStand.{no_fault, one_program}
+use Rattle.qk_words.specs.SettingsData.{SettingsData, AimData, whole, replayed, generated, IsAimInRange}
 use Rattle.qk_engine.specs.Generated.{generated_file}
 use Rattle.qk_engine.specs.Program.{how_many, is_failed, is_gave_up, status_of}
 use Rattle.qk_engine.specs.Reading.{IsLoaded}
-use Rattle.qk_engine.specs.Replay.{TokenReply, property_reply, point_reply, point_of}
+use Rattle.qk_engine.specs.Replay.{TokenReply, LeadsToFailure, property_reply, point_reply, point_of}
 use Rattle.qk_engine.specs.Settings.{settings_told}
-use Rattle.qk_engine.specs.Reply.{IsFault, IsProgram, FileReply, ReportReply, GeneratedReply, program_reply, file_run, ReplyOf, AimNames, AimTells, IsReply, IsRun, IsWellFormed}
+use Rattle.qk_engine.specs.Reply.{IsFault, IsProgram, FileReply, ReportReply, GeneratedReply, program_reply, file_run, ReplyOf, AimNames, AimTells, IsReply, IsRun, IsRunnable}
+use Rattle.qk_engine.proofs.GeneratedProgram.{generated_program}
 
 -- a file that is too long has that fault, whatever its bytes are
 long_is_refused : (bytes : List ℕ) → 1048576 < length bytes → text_fault bytes ≡ Some (fault 1 start)
@@ -38,6 +39,19 @@ long_fault bytes r long front said = elim said as (λ _. IsFault bytes r) [
   | inl e ↦ inl (long_is_refused bytes long ∙ sym (long_is_refused (take 1048577 bytes) (omega (arith, front))) ∙ e)
   | inr trees ↦ let short = trees.1.short in absurd (omega (arith, short, front))
 ]
+
+pub program_has_no_fault : (bytes : List ℕ) (c : ProgramData) → IsProgram bytes c → (r : Refusal) → IsFault bytes r → ⊥
+program_has_no_fault bytes c program r said = elim said as (λ _. ⊥) [
+  | inl e ↦ let both = sym (spelled_has_no_fault bytes program.0 program.1) ∙ e in cc
+  | inr trees ↦
+      let same : trees.0 ≡ program.0 = one_spelling bytes trees.0 program.0 trees.1 program.1 in
+      let both = sym (ap type_fault same ∙ no_fault program.0 c program.2) ∙ trees.2 in cc
+]
+
+pub programs_are_one : (bytes : List ℕ) (c d : ProgramData) → IsProgram bytes c → IsProgram bytes d → c ≡ d
+programs_are_one bytes c d one other =
+    let same : one.0 ≡ other.0 = one_spelling bytes one.0 other.0 one.1 other.1 in
+    one_program other.0 c d (subst (λ (ts : PlainTrees). StandsFor ts c) same one.2) other.2
 
 module _ (answers : ProgramData → Status → List ℕ → Type 0) where
   -- what is said of the front that was loaded holds of the whole file
@@ -59,20 +73,12 @@ module _ (answers : ProgramData → Status → List ℕ → Type 0) where
     | inr program ↦ program_is_short bytes program.0 program.1
   ]
 
-  -- a well-formed file has no fault
-  pub program_is_answered : (bytes : List ℕ) (s : Status) (text : List ℕ) (c : ProgramData) → IsProgram bytes c → FileReply answers bytes s text → (d : ProgramData) × answers d s text
-  program_is_answered bytes s text c program said = elim said as (λ _. (d : ProgramData) × answers d s text) [
-    | inl refused ↦ absurd (no_fault refused.0 refused.1)
-    | inr other ↦ (other.0, other.2)
+  -- the reply to the bytes of a program is that to the program: they have no fault, and no other program
+  pub program_is_answered : (bytes : List ℕ) (s : Status) (text : List ℕ) (c : ProgramData) → IsProgram bytes c → FileReply answers bytes s text → answers c s text
+  program_is_answered bytes s text c program said = elim said as (λ _. answers c s text) [
+    | inl refused ↦ absurd (program_has_no_fault bytes c program refused.0 refused.1)
+    | inr other ↦ subst (λ (d : ProgramData). answers d s text) (programs_are_one bytes other.0 c other.1 program) other.2
   ]
-    where
-      no_fault : (r : Refusal) → IsFault bytes r → ⊥
-      no_fault r said = elim said as (λ _. ⊥) [
-        | inl e ↦ let both = sym (spelled_has_no_fault bytes program.0 program.1) ∙ e in cc
-        | inr trees ↦
-            let same : trees.0 ≡ program.0 = one_spelling bytes trees.0 program.0 trees.1 program.1 in
-            let both = sym (ap result_err (ap elaborated same ∙ program.2)) ∙ trees.2 in cc
-      ]
 
 run_or_not : (b : Bool) → IsRun (if b then status.AllPassed else status.SomeFailed)
 run_or_not true = inl refl
@@ -120,15 +126,27 @@ names_one (whole name) one other a b = sym a ∙ b
 names_one (replayed token name) one other a b = sym a ∙ b
 names_one (generated n) one other a b = absurd a
 
--- the report of a well-formed file tells of a run
-pub report_is_run : (d : SettingsData) (file bytes : List ℕ) (s : Status) (text : List ℕ) → d.aim ≡ whole file → IsWellFormed bytes → ReplyOf d bytes s text → IsRun s
-report_is_run d file bytes s text aim program said =
-    of_aim d.aim aim said
+-- a token that leads to a failure is replayed
+failure_is_replayed : (t : TokenData) (c : ProgramData) (s : Status) (text : List ℕ) → LeadsToFailure t c → TokenReply t c s text → IsRun s
+failure_is_replayed t c s text (p, point, has, leads) said =
+    let of_property : property_reply c t (Some p) s text = subst (λ (o : Option PropertyData). property_reply c t o s text) has said in
+    let of_point : point_reply c p t (Some point) s text = subst (λ (o : Option DrawnValues). point_reply c p t o s text) leads of_property in
+    inr of_point.0
+
+-- where no refusal applies, the reply tells of a run
+pub runnable_is_run : (d : SettingsData) (bytes : List ℕ) (s : Status) (text : List ℕ) → IsAimInRange d.aim → IsRunnable d.aim bytes → ReplyOf d bytes s text → IsRun s
+runnable_is_run d bytes s text in_range runnable said =
+    of_aim d.aim in_range runnable said
   where
-    of_aim : (a : AimData) → a ≡ whole file → FileReply (program_reply a (settings_told d)) (file_run a bytes) s text → IsRun s
-    of_aim (whole name) e said = let answered = program_is_answered (ReportReply (settings_told d)) bytes s text program.0 program.1 said in subst IsRun (sym answered.1.0) (status_is_run (settings_told d) answered.0)
-    of_aim (replayed token name) e said = absurd (cc)
-    of_aim (generated n) e said = absurd (cc)
+    of_aim : (a : AimData) → IsAimInRange a → IsRunnable a bytes → FileReply (program_reply a (settings_told d)) (file_run a bytes) s text → IsRun s
+    of_aim (whole name) within program said =
+        let answered = program_is_answered (ReportReply (settings_told d)) bytes s text program.0 program.1 said in
+        subst IsRun (sym answered.0) (status_is_run (settings_told d) program.0)
+    of_aim (replayed token name) within program said = failure_is_replayed token program.0 s text program.2 (program_is_answered (TokenReply token) bytes s text program.0 program.1 said)
+    of_aim (generated n) within runs said =
+        let program = generated_program n within.0 within.1 in
+        let answered = program_is_answered (GeneratedReply (settings_told d) n) (generated_file n) s text program.0 program.1 said in
+        subst IsRun (sym answered.0) (status_is_run (settings_told d) program.0)
 
 -- an aim names its own file
 pub whole_names : (aim : AimData) (file : List ℕ) → aim ≡ whole file → AimNames aim file

@@ -39,6 +39,10 @@ replayed_failure c p t point = record {
 abbrev pub point_of : ProgramData → PropertyData → TokenData → Option DrawnValues
 point_of c p t = replayed c p t.seed t.fuel t.attempt t.size t.path
 
+-- the program has the token's property, and the token's attempt and each step of its path fail
+abbrev pub LeadsToFailure : TokenData → ProgramData → Type 0
+LeadsToFailure t c = (p : PropertyData) × (point : DrawnValues) × (slice_get c.properties t.property ≡ Some p) × (point_of c p t ≡ Some point)
+
 abbrev pub point_reply : ProgramData → PropertyData → TokenData → Option DrawnValues → Status → List ℕ → Type 0
 point_reply c p t None s text = (s ≡ status.Usage) × (text ≡ bad_token)
 point_reply c p t (Some point) s text = (s ≡ status.SomeFailed) × (text ≡ replayed_block c.kinds t.property p (replayed_failure c p t point))

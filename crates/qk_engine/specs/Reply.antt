@@ -1,5 +1,5 @@
 -- What a run answers: a status and a text for the words and the bytes of their file.
-use Rattle.std.specs.Prelude.{◌≡◌, ◌⊎◌, ℕ, List, ◌++◌, Option, Some, Ok, codes, ⊤}
+use Rattle.std.specs.Prelude.{◌≡◌, ◌⊎◌, ℕ, List, ◌++◌, Option, Some, codes, ⊤}
 use Rattle.qk_base.specs.declared.place.Refusal.{Refusal}
 use Rattle.qk_base.specs.declared.status.Status.{Status}
 use Rattle.qk_base.specs.declared.status.Status.TheVariants as status
@@ -9,13 +9,14 @@ use Rattle.qk_report.specs.Lines.{line, named}
 use Rattle.qk_syntax.specs.PlainTrees.{PlainTrees}
 use Rattle.qk_syntax.specs.Spelling.{Spells}
 use Rattle.qk_syntax.specs.TextFault.{text_fault}
-use Rattle.qk_types.specs.Elaboration.{elaborated, type_fault}
+use Rattle.qk_types.specs.Elaboration.{type_fault}
+use Rattle.qk_wellformed.specs.StandsFor.{StandsFor}
 use Rattle.qk_words.specs.Accepted.{IsAccepted}
 use Rattle.qk_words.specs.Given.{AreSettings, HasBadToken}
 use Rattle.qk_words.specs.SettingsData.{SettingsData, AimData, whole, replayed, generated}
 use Rattle.qk_engine.specs.Generated.{generated_file, generated_text}
 use Rattle.qk_engine.specs.Program.{IsReport, status_of}
-use Rattle.qk_engine.specs.Replay.{TokenReply, bad_token}
+use Rattle.qk_engine.specs.Replay.{TokenReply, LeadsToFailure, bad_token}
 use Rattle.qk_engine.specs.Settings.{settings_told}
 
 -- words that are not accepted give the usage line
@@ -30,9 +31,9 @@ refusal r = line (named (codes "refused ") r.code ++ named (codes " at ") r.plac
 abbrev pub IsFault : List ℕ → Refusal → Type 0
 IsFault bytes r = (text_fault bytes ≡ Some r) ⊎ ((trees : PlainTrees) × Spells bytes trees × (type_fault trees ≡ Some r))
 
--- the program of a file
+-- the program of a file: its bytes spell trees that stand for it
 abbrev pub IsProgram : List ℕ → ProgramData → Type 0
-IsProgram bytes c = (trees : PlainTrees) × Spells bytes trees × (elaborated trees ≡ Ok c)
+IsProgram bytes c = (trees : PlainTrees) × Spells bytes trees × StandsFor trees c
 
 abbrev pub Refuses : Refusal → Status → List ℕ → Type 0
 Refuses r s text = (s ≡ status.Refused) × (text ≡ refusal r)
@@ -87,12 +88,15 @@ Names words file = (d : SettingsData) × AreSettings words d × AimNames d.aim f
 abbrev pub Tells : (List ℕ → Option (List ℕ)) → List (List ℕ) → List ℕ → Type 0
 Tells holds words bytes = (file : List ℕ) → Names words file → holds file ≡ Some bytes
 
--- the words want the report of that file
-abbrev pub Reports : List (List ℕ) → List ℕ → Type 0
-Reports words file = (d : SettingsData) × AreSettings words d × (d.aim ≡ whole file)
+-- no refusal applies where the file that is named, if any, has those bytes: they are those of a program, and a token leads to a failure in it
+abbrev pub IsRunnable : AimData → List ℕ → Type 0
+IsRunnable (whole name) bytes = (c : ProgramData) × IsProgram bytes c
+IsRunnable (replayed token name) bytes = (c : ProgramData) × IsProgram bytes c × LeadsToFailure token c
+IsRunnable (generated n) bytes = ⊤
 
-abbrev pub IsWellFormed : List ℕ → Type 0
-IsWellFormed bytes = (c : ProgramData) × IsProgram bytes c
+-- the words are accepted, and no refusal applies
+abbrev pub MayRun : List (List ℕ) → List ℕ → Type 0
+MayRun words bytes = (d : SettingsData) × AreSettings words d × IsRunnable d.aim bytes
 
 -- the answers with a text
 abbrev pub IsReply : Status → Type 0

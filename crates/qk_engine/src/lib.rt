@@ -2,24 +2,22 @@
 #![tactic(auto)]
 
 mod blocks;
+mod calm;
 mod generating;
 mod laws;
 mod loading;
 mod made;
-#[cfg(test)]
-mod program_tests;
 mod reading;
 mod refusing;
 mod replaying;
 mod replying;
 mod settings;
 mod summing;
-#[cfg(test)]
-mod tests;
 mod top;
 mod totals;
 
-pub use laws::{window_decides_work_lines, workers_decide_nothing};
+pub use calm::{run_calm, run_into_calm, run_with_calm};
+pub use laws::{replies_are_one, replies_exist, window_decides_work_lines, workers_decide_nothing};
 pub use made::Made;
 pub use qk_words::{Aim, Settings, WordsFault, read_words};
 pub use top::{run, run_into, run_with};

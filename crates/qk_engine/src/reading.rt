@@ -1,13 +1,12 @@
 //! The program of a file.
-ghost use Rattle.std.specs.Prelude.{◌≡◌, ◌≤◌, IfOk, length};
-ghost use Rattle.qk_engine.specs.Reading.{IsRead};
+ghost use Rattle.std.specs.Prelude.{◌≤◌, IfOk, length};
+ghost use Rattle.qk_engine.specs.Reading.{IsChecked, IsRead};
 ghost use Rattle.qk_syntax.specs.View.{views};
-ghost use Rattle.qk_types.specs.Elaboration.{elaborated};
 
 use qk_base::{Fault, Memory, Refusal, Seq};
 use qk_core::Core;
 use qk_syntax::{Tree, read};
-use qk_types::elaborate;
+use qk_wellformed::program_of;
 use std::alloc::Global;
 
 /// The program that the bytes of a file stand for, or the file's first fault.
@@ -27,9 +26,9 @@ pub fn read_program(alloc: Global, bytes: &[u8]) -> Result<Result<Core, Refusal>
 // The program that the trees stand for, or the first check that does not hold of them.
 fn checked(alloc: Global, trees: &Seq<Tree>) -> Result<Result<Core, Refusal>, Memory>
     requires { length trees.now.items ≤ 1000 }
-    ensures { IfOk result (λ checked. elaborated (views trees.now.items) ≡ checked) }
+    ensures { IfOk result (λ checked. IsChecked (views trees.now.items) checked) }
 {
-    match elaborate(alloc, trees) {
+    match program_of(alloc, trees) {
         Ok(core) => Ok(Ok(core)),
         Err(Fault::Memory) => Err(Memory),
         Err(Fault::Refused(refusal)) => Ok(Err(refusal)),

@@ -3,7 +3,7 @@ ghost use Rattle.std.specs.Prelude.{◌≡◌, ◌⊎◌, ℕ, List, [], Some, O
 ghost use Rattle.qk_base.specs.Faults.{HasRisen};
 ghost use Rattle.qk_base.specs.Gains.{Gains};
 ghost use Rattle.qk_base.specs.declared.status.Status.{Status as Answer};
-ghost use Rattle.qk_engine.specs.Reply.{AimNames, AimTells, IsReply, IsRun, Names, Replies, ReplyOf, IsWellFormed, Reports, Tells};
+ghost use Rattle.qk_engine.specs.Reply.{AimNames, AimTells, IsReply, IsRun, IsRunnable, MayRun, Names, Replies, ReplyOf, Tells};
 ghost use Rattle.qk_words.specs.Given.{AreSettings};
 ghost use Rattle.qk_words.specs.SettingsData.{settings_in, AreInRange};
 
@@ -47,8 +47,11 @@ pub fn run<R: Threads + Sync, L: Library, K: Sink, G: Gate>(
     // Where nothing fails, there is a reply, or memory is wanted.
     ensures answers { ((file : List ℕ) → Names (map string_bytes words.now) file → HasRisen (L.faults library.old file) (L.faults library.new file) → ⊥)
         → (HasRisen (K.faults sink.old) (K.faults sink.new) → ⊥) → IsReply result ⊎ (result ≡ Status.Memory) }
-    ensures completes { (file bytes : List ℕ) → Reports (map string_bytes words.now) file → L.holds library.old file ≡ Some bytes → IsWellFormed bytes
-        → (HasRisen (L.faults library.old file) (L.faults library.new file) → ⊥) → (HasRisen (K.faults sink.old) (K.faults sink.new) → ⊥) → IsRun result ⊎ (result ≡ Status.Memory) }
+
+    // .. and where no refusal applies either, it tells of a run.
+    ensures completes { (bytes : List ℕ) → Tells (L.holds library.old) (map string_bytes words.now) bytes → MayRun (map string_bytes words.now) bytes
+        → ((file : List ℕ) → Names (map string_bytes words.now) file → HasRisen (L.faults library.old file) (L.faults library.new file) → ⊥)
+        → (HasRisen (K.faults sink.old) (K.faults sink.new) → ⊥) → IsRun result ⊎ (result ≡ Status.Memory) }
 {
     match run_into(rt, alloc, words, library, gate) {
         Err(status) => status,
@@ -72,6 +75,9 @@ pub fn run_into<R: Threads + Sync, L: Library, G: Gate>(
     ensures faults { IfErr result (λ status. (status ≡ Status.ReadFault) ⊎ (status ≡ Status.Memory)) }
     ensures read_fault { IsErrOf result Status.ReadFault
         → (file : List ℕ) × Names (map string_bytes words.now) file × HasRisen (L.faults library.old file) (L.faults library.new file) }
+    ensures answers { ((file : List ℕ) → Names (map string_bytes words.now) file → HasRisen (L.faults library.old file) (L.faults library.new file) → ⊥)
+        → IfErr result (λ status. status ≡ Status.Memory) }
+    ensures completes { IfOk result (λ made. (bytes : List ℕ) → Tells (L.holds library.old) (map string_bytes words.now) bytes → MayRun (map string_bytes words.now) bytes → IsRun made.status) }
     ensures read_whole { IfOk result (λ made. IsRun made.status → (file bytes : List ℕ) → Names (map string_bytes words.now) file → L.holds library.old file ≡ Some bytes → L.left library.new ≡ Some []) }
     ensures unread { ((file : List ℕ) → Names (map string_bytes words.now) file → ⊥) → library.new ≡ library.old }
 {
@@ -100,6 +106,9 @@ pub fn run_with<R: Threads + Sync, L: Library, G: Gate>(
     ensures faults { IfErr result (λ status. (status ≡ Status.ReadFault) ⊎ (status ≡ Status.Memory)) }
     ensures read_fault { IsErrOf result Status.ReadFault
         → (file : List ℕ) × AimNames (settings_in settings.now).aim file × HasRisen (L.faults library.old file) (L.faults library.new file) }
+    ensures answers { ((file : List ℕ) → AimNames (settings_in settings.now).aim file → HasRisen (L.faults library.old file) (L.faults library.new file) → ⊥)
+        → IfErr result (λ status. status ≡ Status.Memory) }
+    ensures completes { IfOk result (λ made. (bytes : List ℕ) → AimTells (L.holds library.old) (settings_in settings.now).aim bytes → IsRunnable (settings_in settings.now).aim bytes → IsRun made.status) }
     ensures read_whole { IfOk result (λ made. IsRun made.status → (file bytes : List ℕ) → AimNames (settings_in settings.now).aim file → L.holds library.old file ≡ Some bytes → L.left library.new ≡ Some []) }
     ensures unread { ((file : List ℕ) → AimNames (settings_in settings.now).aim file → ⊥) → library.new ≡ library.old }
 {

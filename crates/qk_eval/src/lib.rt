@@ -14,8 +14,6 @@ mod order;
 mod pending;
 mod rows;
 mod shared;
-#[cfg(test)]
-mod tests;
 
 pub use answer::Answer;
 pub use ending::Ending;

@@ -8,8 +8,6 @@ mod items;
 mod machine;
 mod pending;
 mod steps;
-#[cfg(test)]
-mod tests;
 
 pub use drawing::{draw, draw_shared, draw_user, draw_user_shared};
 pub use qk_eval::Answer;

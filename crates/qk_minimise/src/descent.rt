@@ -6,6 +6,7 @@ ghost use Rattle.qk_minimise.specs.Minimal.{minimal_of};
 use crate::frontier::first_failing;
 use crate::minimum::Minimum;
 use qk_base::{Family, Gate, Memory, Seq};
+use qk_scan::Pace;
 use std::alloc::Global;
 use std::thread::Threads;
 
@@ -52,13 +53,14 @@ fn go_down<R: Threads + Sync, F: Family, G: Gate>(
     ensures descent { IfOk result (λ minimum. minimum ≡ minimal_of (descent (F.children family.now) (F.failing family.now) limit start)) }
     ensures owned { IfOk result (λ minimum. F.owns family.now minimum.point) }
 {
+    let mut pace = Pace::make(workers);
     let mut point = start;
     let mut path = Seq::make(alloc);
     let mut tried = 0u64;
     for step in 0..limit {
         let spread = family.spread(alloc, &point)?;
         let count = family.count(&spread);
-        let Some(place) = first_failing(rt, alloc, gate, family, &spread, workers)? else {
+        let Some(place) = first_failing(rt, alloc, gate, family, &spread, &mut pace)? else {
             return Ok(Minimum {
                 point,
                 path,

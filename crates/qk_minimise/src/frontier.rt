@@ -4,10 +4,13 @@ ghost use Rattle.std.specs.List.{position_from};
 ghost use Rattle.qk_minimise.specs.Candidates.{fails_at};
 
 use qk_base::{Family, Gate, Memory};
-use qk_scan::{Jobs, scan};
+use qk_scan::{Jobs, Pace, scan_paced};
 use std::alloc::Global;
 use std::marker::Model;
 use std::thread::Threads;
+
+/// The candidates of the first frontier of a point.
+const FIRST: u64 = 64;
 
 /// The most candidates that are scanned at once.
 const MOST: u64 = 4096;
@@ -74,9 +77,8 @@ fn first_within<R: Threads + Sync, F: Family, G: Gate>(
     spread: &F::Spread,
     first: u64,
     count: u32,
-    workers: u32,
+    pace: &mut Pace,
 ) -> Result<Option<u64>, Memory>
-    requires workers { (0 < workers) × (workers ≤ 64) }
     requires few { count ≤ 4096 }
     requires early { first ≤ 2 ^ 40 }
     requires within { first + count ≤ length (F.listed family.now spread.now) }
@@ -89,35 +91,36 @@ fn first_within<R: Threads + Sync, F: Family, G: Gate>(
         first,
         count,
     };
-    let answers = scan(rt, alloc, gate, &frontier, workers)?;
+    let answers = scan_paced(rt, alloc, gate, &frontier, pace)?;
     match first_hit(answers.as_slice()) {
         None => Ok(None),
         Some(place) => Ok(Some(first + place as u64)),
     }
 }
 
-/// The number of the first failing candidate, found frontier by frontier.
+/// The number of the first failing candidate, found frontier by frontier, each four times as long as the one before.
 pub(crate) fn first_failing<R: Threads + Sync, F: Family, G: Gate>(
     rt: &R,
     alloc: Global,
     gate: &G,
     family: &F,
     spread: &F::Spread,
-    workers: u32,
+    pace: &mut Pace,
 ) -> Result<Option<u64>, Memory>
-    requires workers { (0 < workers) × (workers ≤ 64) }
     requires owned { All (F.owns family.now) (F.listed family.now spread.now) }
     ensures { IfOk result (λ place. place ≡ position (F.failing family.now) (F.listed family.now spread.now)) }
 {
     let count = family.count(spread);
     let mut first = 0;
+    let mut most = FIRST;
     while first < count {
-        let size = (count - first).min(MOST);
-        let place = first_within(rt, alloc, gate, family, spread, first, size as u32, workers)?;
+        let size = (count - first).min(most);
+        let place = first_within(rt, alloc, gate, family, spread, first, size as u32, pace)?;
         if place.is_some() {
             return Ok(place);
         }
         first += size;
+        most = (most * 4).min(MOST);
     }
     Ok(None)
 }

@@ -7,8 +7,6 @@ mod descent;
 mod frontier;
 mod minimum;
 mod shrinking;
-#[cfg(test)]
-mod tests;
 mod walking;
 
 pub use descent::descend;

@@ -1,5 +1,5 @@
 -- What is told of a property's run.
-use Rattle.std.proofs.Common.{◌≡◌, ◌∙◌, ℕ, ◌+◌, ◌*◌, ◌≤◌, Bool, true, false, List, Some, None, if◌then◌else◌, option_map, refl, sym, ap, subst, arith}
+use Rattle.std.proofs.Common.{◌≡◌, ◌∙◌, ℕ, ◌+◌, ◌*◌, ◌≤◌, true, List, Option, Some, None, option_map, refl, sym, ap, subst, arith}
 use Rattle.std.proofs.Math.Nat.{mul-le-mul_left}
 use Rattle.std.specs.Option.{is_some}
 use Rattle.qk_base.specs.declared.outcome.Cause.{Cause}
@@ -65,17 +65,17 @@ module _ (s : RunSettings) (c : ProgramData) (p : PropertyData) where
       let all = counts.all in
       omega (arith, same, last, all)
 
-  work_same : (b : Bool) (window : ℕ) (work : Work) → work ≡ work_for (report_settings s) c p window
-      → (if b then Some (numbers_of work) else None) ≡ option_map (λ w. numbers_of (work_for (report_settings s) c p w)) (told_window_of b window)
-  work_same true window work e = ap (λ (w : Work). Some (numbers_of w)) e
-  work_same false window work e = refl
+  work_same : (window : Option ℕ) (work : Option Work) → work ≡ option_map (work_for (report_settings s) c p) window
+      → option_map numbers_of work ≡ option_map (λ w. numbers_of (work_for (report_settings s) c p w)) window
+  work_same (Some window) work e = ap (option_map numbers_of) e
+  work_same None work e = ap (option_map numbers_of) e
 
   -- what is told of the end of a run is told of the run
   pub told_same : (tested : Tested) (m : Minimal DrawnValues) (cause : Cause) → IsTested s c p tested → told_from s tested m cause ≡ told (report_settings s) c p m cause
   told_same tested m cause is =
       let state = is.run.state_is in
       let finish = is.run.finish_is in
-      let work = work_same s.work s.window tested.work is.work in
+      let work = work_same (told_window_of s.work s.window) tested.work is.work in
       λ i. record {
         finish = finish i;
         successes = (state i).successes;

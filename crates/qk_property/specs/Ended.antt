@@ -1,5 +1,5 @@
 -- What the end of a property's run tells.
-use Rattle.std.specs.Prelude.{◌≡◌, Some, None, if◌then◌else◌}
+use Rattle.std.specs.Prelude.{◌≡◌, option_map}
 use Rattle.std.specs.Option.{is_some}
 use Rattle.qk_base.specs.declared.outcome.Cause.{Cause}
 use Rattle.qk_command.specs.Drawing.{DrawnValues}
@@ -15,12 +15,12 @@ use Rattle.qk_property.specs.Settings.{report_settings}
 use Rattle.qk_property.specs.declared.settings.RunSettings.{RunSettings}
 use Rattle.qk_property.specs.declared.testing.Tested.{Tested}
 
--- state, finish and tables are those of the sequential run, and the work is that of its run by windows
+-- state, finish and tables are those of the sequential run, and the work, where it is told, is that of its run by windows
 pub record IsTested (s : RunSettings) (c : ProgramData) (p : PropertyData) (tested : Tested) : Type 0 where
   pub run : IsRun tested.state tested.finish (run_of (report_settings s) c p)
   pub tables : StandsFor tested.tables (run_of (report_settings s) c p).done
   pub made : tested.tables.property.now ≡ p
-  pub work : tested.work ≡ work_for (report_settings s) c p s.window
+  pub work : tested.work ≡ option_map (work_for (report_settings s) c p) (report_settings s).told_window
 
 -- what is told of that end, with these last values and their cause
 abbrev pub told_from : RunSettings → Tested → Minimal DrawnValues → Cause → ToldData
@@ -36,5 +36,5 @@ told_from s tested m cause = record {
   limit_met = m.limit_met;
   seed = s.seed;
   fuel = s.fuel;
-  work = if s.work then Some (numbers_of tested.work) else None;
+  work = option_map numbers_of tested.work;
 }

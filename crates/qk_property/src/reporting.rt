@@ -1,9 +1,9 @@
 //! The block of a property in the report.
-ghost use Rattle.std.specs.Prelude.{◌≡◌, ◌<◌, ◌≤◌, true, Some, None, length, slice_get, IfOk, if◌then◌else◌};
+ghost use Rattle.std.specs.Prelude.{◌≡◌, ◌<◌, ◌≤◌, true, Some, length, slice_get, IfOk, option_map};
 ghost use Rattle.qk_base.specs.declared.outcome.Cause.TheVariants as causes;
 ghost use Rattle.qk_core.specs.Properties.{PropertyData};
 ghost use Rattle.qk_property.specs.Attempts.{drawn_at};
-ghost use Rattle.qk_property.specs.Blocks.{IsBlock, nothing, told};
+ghost use Rattle.qk_property.specs.Blocks.{IsBlock, nothing, numbers_of, told};
 ghost use Rattle.qk_property.specs.Points.{fails_at, IsSmallPoint};
 ghost use Rattle.qk_property.specs.Running.{run_of};
 ghost use Rattle.qk_property.specs.Settings.{AreInRange, report_settings};
@@ -175,11 +175,6 @@ fn told_from(
 ) -> Result<Told, Memory>
     ensures { IfOk result (λ told. told_in told ≡ told_from settings.now tested.now minimum cause) }
 {
-    let Work {
-        windows,
-        rounds,
-        trials,
-    } = tested.work;
     let Minimum {
         point,
         path,
@@ -199,12 +194,15 @@ fn told_from(
         limit_met,
         seed: settings.seed,
         fuel: settings.fuel,
-        work: work_told(settings.work, (windows, rounds, trials)),
+        work: numbers_told(tested.work),
     })
 }
 
-fn work_told(wanted: bool, work: (u64, u64, u64)) -> Option<(u64, u64, u64)>
-    ensures { result ≡ (if wanted then Some work else None) }
+fn numbers_told(work: Option<Work>) -> Option<(u64, u64, u64)>
+    ensures { result ≡ option_map numbers_of work }
 {
-    if wanted { Some(work) } else { None }
+    match work {
+        None => None,
+        Some(work) => Some((work.windows, work.rounds, work.trials)),
+    }
 }

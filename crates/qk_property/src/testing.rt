@@ -11,22 +11,23 @@ use crate::trial::PropertyTrial;
 use qk_base::{Gate, Memory};
 use qk_core::{Core, Mark, Property};
 use qk_report::Tables;
-use qk_rounds::{Ended, Work, drive};
+use qk_rounds::{Ended, Reached, Work, drive, drive_freely};
 use qk_schedule::{Finish, Limits, QuickCourse, State};
 use std::alloc::Global;
 use std::thread::Threads;
 
-/// How the run of a property ended: the last state, why, the work that it took, and the tables of what was committed.
+/// How the run of a property ended: the last state, why, the work that it took, where that is told, and the tables of what was committed.
 #[derive(Drop)]
 pub struct Tested<'c> {
     pub state: State,
     pub finish: Finish,
-    pub work: Work,
+    pub work: Option<Work>,
     pub tables: Tables<'c>,
 }
 
 /// Runs the attempts of a property of a program. State, finish and tables are those of the sequential run, whatever the window and the
-/// number of workers; the work depends on the window alone.
+/// number of workers. Where the work is told the attempts run by windows of the size that is set, since the work depends on it; else the
+/// run takes windows as they pay.
 pub fn test_property<'c, R: Threads + Sync, G: Gate>(
     rt: &R,
     alloc: Global,
@@ -42,11 +43,29 @@ pub fn test_property<'c, R: Threads + Sync, G: Gate>(
     let course = QuickCourse::make(limits);
     let mut trial = PropertyTrial::make(alloc, core, property, settings.seed, settings.fuel);
     let mut tables = Tables::make(alloc, property)?;
-    let Ended {
-        state,
-        finish,
-        work,
-    } = drive(
+    if settings.work {
+        let Ended {
+            state,
+            finish,
+            work,
+        } = drive(
+            rt,
+            alloc,
+            gate,
+            &course,
+            &mut trial,
+            &mut tables,
+            settings.workers,
+            settings.window,
+        )?;
+        return Ok(Tested {
+            state,
+            finish,
+            work: Some(work),
+            tables,
+        });
+    }
+    let Reached { state, finish } = drive_freely(
         rt,
         alloc,
         gate,
@@ -54,12 +73,11 @@ pub fn test_property<'c, R: Threads + Sync, G: Gate>(
         &mut trial,
         &mut tables,
         settings.workers,
-        settings.window,
     )?;
     Ok(Tested {
         state,
         finish,
-        work,
+        work: None,
         tables,
     })
 }

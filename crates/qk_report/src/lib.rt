@@ -17,8 +17,6 @@ mod texts;
 mod token;
 mod token_laws;
 mod token_parsing;
-#[cfg(test)]
-mod token_tests;
 mod tokens;
 mod told;
 mod value_lines;

@@ -147,7 +147,7 @@ abbrev pub first_after : ℕ → List Slot → ℕ
 first_after n [] = n
 first_after n (slot ∷ slots) = n + 1
 
-after_first : (n : ℕ) (slots : List Slot) → n ≤ first_after n slots
+pub after_first : (n : ℕ) (slots : List Slot) → n ≤ first_after n slots
 after_first n [] = omega arith
 after_first n (slot ∷ slots) = omega arith
 

@@ -89,7 +89,7 @@ prefix_reached rules plans outcome proper window stands_for s n work reached =
     let more = from-prefix rules outcome s n reached.done in
     record { before = reached.done; after = more.0; prefix = sym more.1 ∙ ap (λ r. r.done) reached.same; stood_for = reached.stood }
 
-failing-stopped : (why : Stop) → failing (finish_of why) ≡ 0
+pub failing-stopped : (why : Stop) → failing (finish_of why) ≡ 0
 failing-stopped stops.Passed = refl
 failing-stopped stops.GaveUp = refl
 
@@ -109,12 +109,12 @@ ends_stopped {S = S} rules plans outcome proper window stands_for s n work why f
           omega (arith, all, failing-stopped why, reached.counted, reached.trials);
     }
 
-known-length : (slots : List Slot) → known_in slots ≤ length slots
+pub known-length : (slots : List Slot) → known_in slots ≤ length slots
 known-length [] = omega arith
 known-length (None ∷ slots) = let next = known-length slots in omega (arith, next)
 known-length (Some k ∷ slots) = let next = known-length slots in omega (arith, next)
 
-first_number : (n window : ℕ) (slots : List Slot) → 0 < window → length slots ≡ window → first_after n slots ≡ n + 1
+pub first_number : (n window : ℕ) (slots : List Slot) → 0 < window → length slots ≡ window → first_after n slots ≡ n + 1
 first_number n window [] some is = absurd (omega (arith, is, some))
 first_number n window (slot ∷ slots) some is = refl
 

@@ -1,8 +1,10 @@
+pub mod Advancing
 pub mod CommitRun
 pub mod CommitStep
 pub mod Driving
 pub mod Dues
 pub mod Examples
+pub mod FewAttempts
 pub mod Longer
 pub mod OneAttempt
 pub mod Placing

@@ -1,3 +1,4 @@
+pub mod Advance
 pub mod Commit
 pub mod Due
 pub mod Placed

@@ -9,7 +9,7 @@ use crate::fold::outcome_fails;
 use crate::folded::Folded;
 use crate::trial::Trial;
 use qk_base::{Gate, Memory, Outcome, Seq};
-use qk_scan::{Jobs, scan};
+use qk_scan::{Jobs, Pace, scan_paced};
 use std::alloc::Global;
 use std::thread::Threads;
 
@@ -26,6 +26,7 @@ pub(crate) fn due_slots(alloc: Global, folded: &[Folded]) -> Result<Seq<Due>, Me
     ensures { IfOk result (λ due. due.items ≡ due_at 0 folded.now) }
 {
     let mut due = Seq::make(alloc);
+    due.reserve(folded.len())?;
     for i in 0..folded.len() {
         if folded[i].due {
             due.add(Due {
@@ -82,14 +83,13 @@ pub(crate) fn scan_due<R: Threads + Sync, T: Trial, G: Gate>(
     trial: &T,
     from: u64,
     due: &[Due],
-    workers: u32,
+    pace: &mut Pace,
 ) -> Result<Seq<Outcome>, Memory>
-    requires workers { (0 < workers) × (workers ≤ 64) }
     requires early { from ≤ 2 ^ 32 }
     requires few { length due.now ≤ 4096 }
     requires ready { Ready (T.prepared trial.now) from due.now }
     ensures { IfOk result (λ answers. answers.items ≡ prefix_to_hit fails (map (λ d. due_outcome (T.outcome trial.now) from d) due.now)) }
 {
     let jobs = DueTrials { trial, from, due };
-    scan(rt, alloc, gate, &jobs, workers)
+    scan_paced(rt, alloc, gate, &jobs, pace)
 }

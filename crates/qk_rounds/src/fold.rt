@@ -66,6 +66,7 @@ pub(crate) fn fold_slots<C: Course>(
     ensures within { IfOk result (λ folded. length folded.items ≤ length slots.now) }
 {
     let mut folded = Seq::make(alloc);
+    folded.reserve(slots.len())?;
     let mut plan = course.plan(state);
     for slot in slots {
         let size = course.plan_size(plan);

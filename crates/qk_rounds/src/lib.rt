@@ -1,21 +1,23 @@
 //! Windows of attempts at guessed sizes, rounds of repair, and outcomes committed in order.
 #![tactic(auto)]
 
+mod alone;
+mod batches;
 mod commit;
 mod due;
 mod fold;
 mod folded;
+mod freely;
 mod known;
 mod repair;
 mod run;
 mod settle;
 mod slots;
 mod store;
-#[cfg(test)]
-mod tests;
 mod trial;
 mod work;
 
+pub use freely::{Reached, drive_freely};
 pub use known::Known;
 pub use qk_schedule::Finish;
 pub use repair::round;

@@ -13,6 +13,7 @@ use crate::slots::Slots;
 use crate::store::store;
 use crate::trial::Trial;
 use qk_base::{Gate, Memory};
+use qk_scan::Pace;
 use qk_schedule::Course;
 use std::alloc::Global;
 use std::thread::Threads;
@@ -26,9 +27,8 @@ fn repair_due<R: Threads + Sync, T: Trial, G: Gate>(
     from: u64,
     folded: &[Folded],
     slots: &mut [Option<Known>],
-    workers: u32,
+    pace: &mut Pace,
 ) -> Result<u32, Memory>
-    requires workers { (0 < workers) × (workers ≤ 64) }
     requires early { from ≤ 2 ^ 32 }
     requires few { length slots.old ≤ 4096 }
     requires within { length folded.now ≤ length slots.old }
@@ -39,7 +39,7 @@ fn repair_due<R: Threads + Sync, T: Trial, G: Gate>(
     ensures err { OnErr result (slots.new ≡ slots.old) }
 {
     let due = due_slots(alloc, folded)?;
-    let answers = scan_due(rt, alloc, gate, trial, from, due.as_slice(), workers)?;
+    let answers = scan_due(rt, alloc, gate, trial, from, due.as_slice(), pace)?;
     let count = answers.len() as u32;
     store(slots, due.as_slice(), answers);
     Ok(count)
@@ -69,12 +69,39 @@ pub fn round<R: Threads + Sync, C: Course, T: Trial, G: Gate>(
     ensures ok { IfOk result (IsRound (C.rules course.now) (C.plans course.now) (T.outcome trial.now) state.now from slots.old slots.new) }
     ensures err { OnErr result (slots.new ≡ slots.old) }
 {
+    let mut pace = Pace::fixed(workers);
+    round_paced(
+        rt, alloc, gate, course, trial, state, from, slots, &mut pace,
+    )
+}
+
+/// `round` with as many workers as a pace says.
+pub(crate) fn round_paced<R: Threads + Sync, C: Course, T: Trial, G: Gate>(
+    rt: &R,
+    alloc: Global,
+    gate: &G,
+    course: &C,
+    trial: &T,
+    state: &C::State,
+    from: u64,
+    slots: &mut Slots,
+    pace: &mut Pace,
+) -> Result<Option<u32>, Memory>
+    requires early { from ≤ 2 ^ 32 }
+    requires proper { C.proper course.now state.now }
+    requires running { (C.rules course.now).stop state.now ≡ None }
+    requires among { (i : ℕ) → i < length slots.old → Includes (T.prepared trial.now) (from + i) }
+    requires knows { Knows (T.outcome trial.now) from slots.old }
+    requires takes { TakesAll (C.takes course.now) (T.outcome trial.now) }
+    ensures ok { IfOk result (IsRound (C.rules course.now) (C.plans course.now) (T.outcome trial.now) state.now from slots.old slots.new) }
+    ensures err { OnErr result (slots.new ≡ slots.old) }
+{
     let folded = fold_slots(alloc, course, state, slots.slots.as_slice())?;
     if !any_due(folded.as_slice()) {
         return Ok(None);
     }
     let folded = folded.as_slice();
     let slots = slots.slots.as_mut_slice();
-    let count = repair_due(rt, alloc, gate, trial, from, folded, slots, workers)?;
+    let count = repair_due(rt, alloc, gate, trial, from, folded, slots, pace)?;
     Ok(Some(count))
 }

@@ -1,5 +1,6 @@
 //! The run of a property by windows.
-ghost use Rattle.std.specs.Prelude.{◌≡◌, ℕ, ◌*◌, ◌<◌, ◌≤◌, [], IfOk, OnErr};
+ghost use Rattle.std.specs.Prelude.{◌≡◌, ◌↔◌, ℕ, ◌*◌, ◌<◌, ◌≤◌, [], IfOk, OnErr};
+ghost use Rattle.qk_base.specs.Judged.{Judged};
 ghost use Rattle.qk_schedule.specs.Course.{TakesAll};
 ghost use Rattle.qk_schedule.specs.Sequential.{sequential, finish_of};
 ghost use Rattle.qk_rounds.specs.Commit.{StandsForPrefix};
@@ -11,6 +12,7 @@ use crate::settle::settled_window;
 use crate::trial::Trial;
 use crate::work::Work;
 use qk_base::{Gate, Memory, Tally};
+use qk_scan::Pace;
 use qk_schedule::{Course, Finish, Stop};
 use std::alloc::Global;
 use std::thread::Threads;
@@ -23,7 +25,7 @@ pub struct Ended<S> {
     pub work: Work,
 }
 
-fn ended_by(stop: Stop) -> Finish
+pub(crate) fn ended_by(stop: Stop) -> Finish
     ensures { result ≡ finish_of stop }
 {
     match stop {
@@ -55,11 +57,15 @@ pub fn drive<R: Threads + Sync, C: Course, T: Trial, K: Tally, G: Gate>(
     ensures tally { IfOk result (λ _. K.stands_for tally.new (sequential (C.rules course.now) (T.outcome trial.old)).done) }
     ensures work { IfOk result (λ ended. ended.work ≡ work_of (C.rules course.now) (C.plans course.now) (T.outcome trial.old) window) }
     ensures bounds { IfOk result (λ ended. (ended.work.rounds ≤ ended.work.windows * window) × (attempts (sequential (C.rules course.now) (T.outcome trial.old)) ≤ ended.work.trials)) }
+    ensures few { IfOk result (λ _. attempts (sequential (C.rules course.now) (T.outcome trial.old)) ≤ (C.rules course.now).rest (C.rules course.now).start) }
     ensures memory { OnErr result (StandsForPrefix (K.stands_for tally.new) (sequential (C.rules course.now) (T.outcome trial.old)).done) }
+    ensures same_outcomes { T.outcome trial.new ≡ T.outcome trial.old }
+    ensures taking { (other : Judged) → K.takes tally.new other ↔ K.takes tally.old other }
     ensures same_made { K.made tally.new ≡ K.made tally.old }
 {
     let mut state = course.start(alloc)?;
     let mut number = 0;
+    let mut pace = Pace::make(workers);
     let mut work = Work {
         windows: 0,
         rounds: 0,
@@ -76,7 +82,7 @@ pub fn drive<R: Threads + Sync, C: Course, T: Trial, K: Tally, G: Gate>(
         }
         trial.prepare(alloc, number, window)?;
         let settled = settled_window(
-            rt, alloc, gate, course, trial, &state, number, window, workers, work,
+            rt, alloc, gate, course, trial, &state, number, window, &mut pace, work,
         )?;
         work = settled.work;
         let end = commit(alloc, course, &mut state, tally, settled.folded(), number)?;

@@ -7,11 +7,12 @@ ghost use Rattle.qk_rounds.specs.Window.{IsSettled, IsWindow};
 
 use crate::fold::fold_slots;
 use crate::known::Known;
-use crate::repair::round;
+use crate::repair::round_paced;
 use crate::slots::Slots;
 use crate::trial::Trial;
 use crate::work::Work;
 use qk_base::{Gate, Memory};
+use qk_scan::Pace;
 use qk_schedule::Course;
 use std::alloc::Global;
 use std::thread::Threads;
@@ -26,10 +27,9 @@ fn settle<R: Threads + Sync, C: Course, T: Trial, G: Gate>(
     state: &C::State,
     from: u64,
     slots: &mut Slots,
-    workers: u32,
+    pace: &mut Pace,
     begun: Work,
 ) -> Result<Work, Memory>
-    requires workers { (0 < workers) × (workers ≤ 64) }
     requires early { from ≤ 2 ^ 32 }
     requires few { length slots.old ≤ 4096 }
     requires proper { C.proper course.now state.now }
@@ -43,7 +43,7 @@ fn settle<R: Threads + Sync, C: Course, T: Trial, G: Gate>(
     let mut work = begun;
     let window = slots.len();
     for _done in 0..window {
-        match round(rt, alloc, gate, course, trial, state, from, slots, workers)? {
+        match round_paced(rt, alloc, gate, course, trial, state, from, slots, pace)? {
             None => return Ok(work),
             Some(count) => {
                 work.rounds += 1;
@@ -84,10 +84,9 @@ pub(crate) fn settled_window<R: Threads + Sync, C: Course, T: Trial, G: Gate>(
     state: &C::State,
     from: u64,
     window: u32,
-    workers: u32,
+    pace: &mut Pace,
     before: Work,
 ) -> Result<Window, Memory>
-    requires workers { (0 < workers) × (workers ≤ 64) }
     requires window { (0 < window) × (window ≤ 4096) }
     requires early { from ≤ 2 ^ 32 }
     requires proper { C.proper course.now state.now }
@@ -104,7 +103,7 @@ pub(crate) fn settled_window<R: Threads + Sync, C: Course, T: Trial, G: Gate>(
     };
     let mut slots = Slots::make(alloc, window)?;
     let work = settle(
-        rt, alloc, gate, course, trial, state, from, &mut slots, workers, begun,
+        rt, alloc, gate, course, trial, state, from, &mut slots, pace, begun,
     )?;
     let count = fold_slots(alloc, course, state, slots.as_slice())?.len();
     Ok(Window { slots, count, work })

@@ -33,6 +33,7 @@ impl Slots {
         ensures { IfOk result (λ slots. slots ≡ replicate count None) }
     {
         let mut slots = Seq::make(alloc);
+        slots.reserve(count as usize)?;
         for _ in 0..count {
             slots.add(None)?;
         }

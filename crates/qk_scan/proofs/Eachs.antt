@@ -1,7 +1,7 @@
 -- Lists of which each item meets a fact.
 use mathlib.Core.Option.{some, some-injective, some-ne-none}
 use lib.ListN.{get_elem?}
-use Rattle.std.proofs.Common.{◌≡◌, sym, subst, OnOk, ℕ, zero, suc, List, [], ◌∷◌, ◌++◌, take, drop, Result, Ok, Err, OnErr}
+use Rattle.std.proofs.Common.{◌≡◌, ◌+◌, ◌<◌, sym, subst, OnOk, ℕ, zero, suc, List, [], ◌∷◌, ◌++◌, length, get_or, Result, Ok, Err, OnErr, arith}
 use Rattle.qk_scan.specs.Each.{Each}
 
 module _ {X : Type 0} (P : X → Type 0) where
@@ -10,15 +10,15 @@ module _ {X : Type 0} (P : X → Type 0) where
   each_at (y ∷ ys) zero x e h = subst P (some-injective y x e) h.0
   each_at (y ∷ ys) (suc i) x e h = each_at ys i x e h.1
 
-  pub each_take : (n : ℕ) (xs : List X) → Each P xs → Each P (take n xs)
-  each_take zero xs h = tt
-  each_take (suc n) [] h = tt
-  each_take (suc n) (x ∷ xs) h = (h.0, each_take n xs h.1)
+  -- what each place has, each item has
+  pub each_of_places : (xs : List X) → ((i : ℕ) (d : X) → i < length xs → P (get_or xs i d)) → Each P xs
+  each_of_places [] h = tt
+  each_of_places (x ∷ xs) h = (h 0 x (omega arith), each_of_places xs (λ i d low. h (suc i) d (omega (arith, low))))
 
-  pub each_drop : (n : ℕ) (xs : List X) → Each P xs → Each P (drop n xs)
-  each_drop zero xs h = h
-  each_drop (suc n) [] h = tt
-  each_drop (suc n) (x ∷ xs) h = each_drop n xs h.1
+  pub each_place : (xs : List X) (i : ℕ) (d : X) → i < length xs → Each P xs → P (get_or xs i d)
+  each_place [] i d low h = absurd (omega (arith, low))
+  each_place (x ∷ xs) zero d low h = h.0
+  each_place (x ∷ xs) (suc i) d low h = each_place xs i d (omega (arith, low)) h.1
 
   pub each_append : (xs ys : List X) → Each P xs → Each P ys → Each P (xs ++ ys)
   each_append [] ys h k = k

@@ -1,9 +1,11 @@
 -- A slot for each number, with its answer once it is known.
 use Rattle.std.specs.Prelude.{◌≡◌, ℕ, ◌<◌, Bool, List, length, Option, None, IfSome, IsSome, slice_index_or}
-use Rattle.atomic_table.specs.Seated.{TableId}
+use Rattle.qk_board.specs.declared.board.Board.{Board}
+use Rattle.qk_board.specs.declared.layout.Layout.{Ghosts}
 use Rattle.qk_board.specs.declared.seat.BoardSeat.{BoardSeat}
 use Rattle.qk_board.specs.declared.view.BoardView.{BoardView}
-use Rattle.qk_board.specs.Seats.{view_of, IsSeatOf}
+use Rattle.qk_board.specs.Seats.{view_of}
+use Rattle.qk_scan.specs.Crew.{IsSeatOn}
 use Rattle.qk_scan.specs.Work.{performed, hit_numbers, answered, MetAllDry}
 
 module _ {A : Type 0} where
@@ -19,6 +21,6 @@ abbrev pub Done : {A : Type 0} → List ℕ → (ℕ → ℕ → ℕ) → (ℕ �
 Done lengths number answer hits v = (length v.draws ≡ length v.seen) × MetAllDry lengths v × (v.lowered ≡ hit_numbers hits (performed number answer v.draws v.seen))
 
 -- a seat whose worker is done, and whose answers are in their slots
-abbrev pub IsSettled : {A : Type 0} → TableId → ℕ → List ℕ → (ℕ → ℕ → ℕ) → (ℕ → A) → (A → Bool) → List (Option A) → BoardSeat → Type 0
-IsSettled id limit lengths number answer hits slots s = IsSeatOf id limit lengths s × Done lengths number answer hits (view_of s)
-    × ((n : ℕ) → n < length slots → 0 < answered n (performed number answer (view_of s).draws (view_of s).seen) → IsFilled slots n)
+abbrev pub IsSettled : {L A : Type 0} {met : Ghosts L} → Board L met → (ℕ → A) → (A → Bool) → List (Option A) → BoardSeat → Type 0
+IsSettled {met = met} b answer hits slots s = IsSeatOn b s × Done (met.lengths_of b.layout) (met.number_of b.layout) answer hits (view_of s)
+    × ((n : ℕ) → n < length slots → 0 < answered n (performed (met.number_of b.layout) answer (view_of s).draws (view_of s).seen) → IsFilled slots n)

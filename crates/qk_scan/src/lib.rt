@@ -4,13 +4,13 @@
 mod crew;
 mod found;
 mod jobs;
+mod pace;
 mod scanning;
 mod slots;
-#[cfg(test)]
-mod tests;
 mod working;
 
 pub use found::Found;
 pub use jobs::Jobs;
-pub use scanning::scan;
+pub use pace::{Pace, Shares};
+pub use scanning::{scan, scan_paced};
 pub use working::work;

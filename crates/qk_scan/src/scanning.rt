@@ -2,17 +2,17 @@
 ghost use Rattle.std.specs.Prelude.{◌≡◌, ℕ, ◌+◌, ◌<◌, ◌≤◌, [], length, IfOk, OnOk};
 ghost use Rattle.qk_board.specs.Layouts.{IsLayout};
 ghost use Rattle.qk_scan.specs.Each.{Each};
-ghost use Rattle.qk_scan.specs.Crew.{IsReady, IsDone};
+ghost use Rattle.qk_scan.specs.Crew.{IsReady, HasWorked};
 ghost use Rattle.qk_scan.specs.Slots.{AreRight, IsSettled};
 ghost use Rattle.qk_scan.specs.Prefix.{prefix_to_hit, answers_from};
 
 use crate::crew::{Worker, crew, hire};
 use crate::jobs::Jobs;
+use crate::pace::{Pace, shares_of};
 use crate::slots::{collect, empty_slots, put_all};
 use qk_base::{Gate, Memory, Seq};
 use qk_board::{Board, BoardSeat, Layout, Strides};
 use std::alloc::Global;
-use std::collections::VecDeque;
 use std::thread::Threads;
 
 /// Puts a worker's answers into their slots, and its seat to the others.
@@ -23,15 +23,22 @@ fn settle_one<J: Jobs, L: Layout>(
     slots: &mut Vec<Option<J::Answer>>,
     seats: &mut Seq<BoardSeat>,
 ) -> Result<(), Memory>
-    requires done { IsDone board.now.table.shared.table_id (L.limit_of board.now.layout) (L.lengths_of board.now.layout) (L.number_of board.now.layout) (J.answer_at jobs.now) (J.hits jobs.now) worker }
+    requires done { HasWorked board.now (J.answer_at jobs.now) (J.hits jobs.now) worker }
     requires right { AreRight (J.answer_at jobs.now) slots.old.items }
-    requires seats { Each (IsSettled board.now.table.shared.table_id (L.limit_of board.now.layout) (L.lengths_of board.now.layout) (L.number_of board.now.layout) (J.answer_at jobs.now) (J.hits jobs.now) slots.old.items) seats.old.items }
+    requires seats { Each (IsSettled board.now (J.answer_at jobs.now) (J.hits jobs.now) slots.old.items) seats.old.items }
     ensures slots { AreRight (J.answer_at jobs.now) slots.new.items × (length slots.new.items ≡ length slots.old.items) }
     ensures seats { OnOk result ((length seats.new.items ≡ length seats.old.items + 1)
-        × Each (IsSettled board.now.table.shared.table_id (L.limit_of board.now.layout) (L.lengths_of board.now.layout) (L.number_of board.now.layout) (J.answer_at jobs.now) (J.hits jobs.now) slots.new.items) seats.new.items) }
+        × Each (IsSettled board.now (J.answer_at jobs.now) (J.hits jobs.now) slots.new.items) seats.new.items) }
 {
     let _ = board;
-    let Worker { seat, found } = worker;
+    let Worker {
+        seat,
+        found,
+        failed,
+    } = worker;
+    if failed {
+        return Err(Memory);
+    }
     put_all(jobs, found, slots);
     seats.add(seat)
 }
@@ -40,18 +47,18 @@ fn settle_one<J: Jobs, L: Layout>(
 fn settle<J: Jobs, L: Layout>(
     jobs: &J,
     board: &Board<L>,
-    mut workers: VecDeque<Worker<J::Answer>>,
+    mut workers: Vec<Worker<J::Answer>>,
     slots: &mut Vec<Option<J::Answer>>,
     seats: &mut Seq<BoardSeat>,
 ) -> Result<(), Memory>
-    requires done { Each (IsDone board.now.table.shared.table_id (L.limit_of board.now.layout) (L.lengths_of board.now.layout) (L.number_of board.now.layout) (J.answer_at jobs.now) (J.hits jobs.now)) workers.items }
+    requires done { Each (HasWorked board.now (J.answer_at jobs.now) (J.hits jobs.now)) workers.items }
     requires right { AreRight (J.answer_at jobs.now) slots.old.items }
     requires seats { seats.old.items ≡ [] }
     ensures slots { AreRight (J.answer_at jobs.now) slots.new.items × (length slots.new.items ≡ length slots.old.items) }
     ensures seats { OnOk result ((length seats.new.items ≡ length workers.items)
-        × Each (IsSettled board.now.table.shared.table_id (L.limit_of board.now.layout) (L.lengths_of board.now.layout) (L.number_of board.now.layout) (J.answer_at jobs.now) (J.hits jobs.now) slots.new.items) seats.new.items) }
+        × Each (IsSettled board.now (J.answer_at jobs.now) (J.hits jobs.now) slots.new.items) seats.new.items) }
 {
-    while let Some(worker) = workers.pop_front() {
+    while let Some(worker) = workers.pop() {
         settle_one(jobs, board, worker, slots, seats)?;
     }
     Ok(())
@@ -75,7 +82,7 @@ fn finish<J: Jobs, L: Layout>(
 ) -> Result<Seq<J::Answer>, Memory>
     requires count { L.limit_of board.layout ≡ J.total jobs.now }
     requires all { (0 < length seats.items) × (length seats.items ≡ board.table.shared.key.seats) }
-    requires seats { Each (IsSettled board.table.shared.table_id (L.limit_of board.layout) (L.lengths_of board.layout) (L.number_of board.layout) (J.answer_at jobs.now) (J.hits jobs.now) slots.items) seats.items }
+    requires seats { Each (IsSettled board (J.answer_at jobs.now) (J.hits jobs.now) slots.items) seats.items }
     requires slots { (length slots.items ≡ J.total jobs.now) × AreRight (J.answer_at jobs.now) slots.items }
     requires found { found.items ≡ [] }
     ensures { IfOk result (λ v. v.items ≡ prefix_to_hit (J.hits jobs.now) (answers_from (J.answer_at jobs.now) 0 (J.total jobs.now))) }
@@ -115,12 +122,13 @@ fn gather<R: Threads + Sync, J: Jobs, G: Gate, L: Layout>(
     gate: &G,
     jobs: &J,
     board: Board<L>,
-    workers: VecDeque<Worker<J::Answer>>,
+    mut workers: Vec<Worker<J::Answer>>,
     room: Room<J::Answer>,
+    pace: &mut Pace,
 ) -> Result<Seq<J::Answer>, Memory>
     requires count { L.limit_of board.layout ≡ J.total jobs.now }
     requires all { (0 < length workers.items) × (length workers.items ≡ board.table.shared.key.seats) × (length workers.items ≤ length (L.lengths_of board.layout)) × (length (L.lengths_of board.layout) ≤ 64) }
-    requires ready { Each (IsReady board.table.shared.table_id (L.limit_of board.layout) (L.lengths_of board.layout)) workers.items }
+    requires ready { Each (IsReady board) workers.items }
     requires slots { (length room.slots.items ≡ J.total jobs.now) × AreRight (J.answer_at jobs.now) room.slots.items }
     requires empty { (room.seats.items ≡ []) × (room.found.items ≡ []) }
     ensures { IfOk result (λ v. v.items ≡ prefix_to_hit (J.hits jobs.now) (answers_from (J.answer_at jobs.now) 0 (J.total jobs.now))) }
@@ -130,14 +138,68 @@ fn gather<R: Threads + Sync, J: Jobs, G: Gate, L: Layout>(
         mut seats,
         found,
     } = room;
-    let done = crew(rt, alloc, gate, jobs, &board, 0, workers)?;
-    settle(jobs, &board, done, &mut slots, &mut seats)?;
+    crew(rt, alloc, gate, jobs, &board, workers.as_mut_slice());
+    pace.learn(
+        workers.len() as u32,
+        jobs.count(),
+        shares_of(workers.as_slice()),
+    );
+    settle(jobs, &board, workers, &mut slots, &mut seats)?;
     finish(jobs, board, seats, slots, found)
+}
+
+/// The answers that several workers find.
+fn scan_together<R: Threads + Sync, J: Jobs, G: Gate>(
+    rt: &R,
+    alloc: Global,
+    gate: &G,
+    jobs: &J,
+    workers: u32,
+    pace: &mut Pace,
+) -> Result<Seq<J::Answer>, Memory>
+    requires { (0 < workers) × (workers ≤ 64) }
+    ensures { IfOk result (λ v. v.items ≡ prefix_to_hit (J.hits jobs.now) (answers_from (J.answer_at jobs.now) 0 (J.total jobs.now))) }
+{
+    let count = jobs.count();
+    let (board, seats) = Board::make(alloc, Strides::make(count, workers), workers)?;
+    let ready = hire(alloc, &board, seats, share_of(count, workers))?;
+    let room = make_room(alloc, jobs, workers)?;
+    gather(rt, alloc, gate, jobs, board, ready, room, pace)
+}
+
+/// Room for the numbers of a worker's own and as many of the others.
+fn share_of(count: u32, workers: u32) -> usize
+    requires { (0 < workers) × (count ≤ 4096) }
+{
+    (2 * (count / workers) + 2).min(count) as usize
+}
+
+/// The answers that the calling thread finds alone, one after another.
+fn scan_alone<J: Jobs, G: Gate>(alloc: Global, gate: &G, jobs: &J) -> Result<Seq<J::Answer>, Memory>
+    ensures { IfOk result (λ v. v.items ≡ prefix_to_hit (J.hits jobs.now) (answers_from (J.answer_at jobs.now) 0 (J.total jobs.now))) }
+{
+    let count = jobs.count();
+    let mut found = Seq::make(alloc);
+    found.reserve(count as usize)?;
+    let mut index = 0;
+    while index < count {
+        gate.enter(index);
+        let answer = jobs.perform(alloc, index)?;
+        let hit = jobs.hit(&answer);
+        found.add(answer)?;
+        if hit {
+            return Ok(found);
+        }
+        index += 1;
+    }
+    Ok(found)
 }
 
 /// The answers of the jobs 0, 1 and so on, up to and including the first that hits, or of all jobs where none hits. The answer is
 /// the same for every number of workers and every interleaving of their steps. As in QuickerCheck, each worker has numbers of its own
-/// and takes from the others once these are used up. Room for the answers is taken before the workers start.
+/// and takes from the others once these are used up. No more workers start than there are jobs, and where that is one the calling thread
+/// performs the jobs in order. Room for the answers is taken before the workers start; a worker that performs more than twice its share
+/// takes more.
 pub fn scan<R: Threads + Sync, J: Jobs, G: Gate>(
     rt: &R,
     alloc: Global,
@@ -148,9 +210,24 @@ pub fn scan<R: Threads + Sync, J: Jobs, G: Gate>(
     requires { (0 < workers) × (workers ≤ 64) }
     ensures { IfOk result (λ v. v.items ≡ prefix_to_hit (J.hits jobs.now) (answers_from (J.answer_at jobs.now) 0 (J.total jobs.now))) }
 {
-    let count = jobs.count();
-    let (board, seats) = Board::make(alloc, Strides::make(count, workers), workers)?;
-    let ready = hire(alloc, &board, seats, count as usize)?;
-    let room = make_room(alloc, jobs, workers)?;
-    gather(rt, alloc, gate, jobs, board, ready, room)
+    let mut pace = Pace::fixed(workers);
+    scan_paced(rt, alloc, gate, jobs, &mut pace)
+}
+
+/// `scan` with as many workers as a pace says, which learns from it.
+pub fn scan_paced<R: Threads + Sync, J: Jobs, G: Gate>(
+    rt: &R,
+    alloc: Global,
+    gate: &G,
+    jobs: &J,
+    pace: &mut Pace,
+) -> Result<Seq<J::Answer>, Memory>
+    ensures { IfOk result (λ v. v.items ≡ prefix_to_hit (J.hits jobs.now) (answers_from (J.answer_at jobs.now) 0 (J.total jobs.now))) }
+{
+    let workers = pace.workers().min(jobs.count());
+    if workers < 2 {
+        pace.rest();
+        return scan_alone(alloc, gate, jobs);
+    }
+    scan_together(rt, alloc, gate, jobs, workers, pace)
 }

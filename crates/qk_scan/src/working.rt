@@ -2,7 +2,8 @@
 ghost use Rattle.std.specs.Prelude.{◌≡◌, ℕ, ◌+◌, ◌<◌, ◌≤◌, true, false, [], ◌∷◌, ◌++◌, length, IfOk, OnErr};
 ghost use Rattle.qk_totals.specs.Totals.{times};
 ghost use Rattle.qk_board.specs.Views.{length_at, IsEmptyView};
-ghost use Rattle.qk_board.specs.Seats.{view_of, IsSeatOf};
+ghost use Rattle.qk_board.specs.Seats.{view_of};
+ghost use Rattle.qk_scan.specs.Crew.{IsSeatOn};
 ghost use Rattle.qk_scan.specs.Work.{Worked, Pending, AreDrawn, MetAllDry, InCyclicOrder, DrawsMore, top_of, DryUpTo};
 
 use crate::found::Found;
@@ -21,10 +22,10 @@ fn answer_one<J: Jobs, G: Gate, L: Layout>(
     number: u32,
     found: &mut Seq<Found<J::Answer>>,
 ) -> Result<(), Memory>
-    requires seat { IsSeatOf board.now.table.shared.table_id (L.limit_of board.now.layout) (L.lengths_of board.now.layout) seat.old }
+    requires seat { IsSeatOn board.now seat.old }
     requires number { (number < L.limit_of board.now.layout) × (L.limit_of board.now.layout ≡ J.total jobs.now) }
     requires pending { Pending (L.number_of board.now.layout) (J.answer_at jobs.now) (J.hits jobs.now) number (view_of seat.old) found.old.items }
-    ensures seat { IsSeatOf board.now.table.shared.table_id (L.limit_of board.now.layout) (L.lengths_of board.now.layout) seat.new }
+    ensures seat { IsSeatOn board.now seat.new }
     ensures worked { IfOk result (λ _. Worked (L.number_of board.now.layout) (J.answer_at jobs.now) (J.hits jobs.now) (view_of seat.new) found.new.items) }
     ensures draws { ((view_of seat.new).draws ≡ (view_of seat.old).draws) × ((view_of seat.new).dry ≡ (view_of seat.old).dry) }
     ensures failed { OnErr result (found.new.items ≡ found.old.items) }
@@ -54,11 +55,11 @@ fn turn<J: Jobs, G: Gate, L: Layout>(
     range: u32,
     found: &mut Seq<Found<J::Answer>>,
 ) -> Result<bool, Memory>
-    requires seat { IsSeatOf board.now.table.shared.table_id (L.limit_of board.now.layout) (L.lengths_of board.now.layout) seat.old }
+    requires seat { IsSeatOn board.now seat.old }
     requires range { (range < length (L.lengths_of board.now.layout)) × (times range (view_of seat.old).dry ≡ 0) }
     requires count { L.limit_of board.now.layout ≡ J.total jobs.now }
     requires worked { Worked (L.number_of board.now.layout) (J.answer_at jobs.now) (J.hits jobs.now) (view_of seat.old) found.old.items }
-    ensures seat { IsSeatOf board.now.table.shared.table_id (L.limit_of board.now.layout) (L.lengths_of board.now.layout) seat.new }
+    ensures seat { IsSeatOn board.now seat.new }
     ensures worked { IfOk result (λ _. Worked (L.number_of board.now.layout) (J.answer_at jobs.now) (J.hits jobs.now) (view_of seat.new) found.new.items) }
     ensures dry { IfOk result (λ dry. dry ≡ true → (view_of seat.new).dry ≡ (view_of seat.old).dry ++ range ∷ []) }
     ensures drew { IfOk result (λ dry. dry ≡ false → ((view_of seat.new).dry ≡ (view_of seat.old).dry)
@@ -85,11 +86,11 @@ fn drain<J: Jobs, G: Gate, L: Layout>(
     range: u32,
     found: &mut Seq<Found<J::Answer>>,
 ) -> Result<(), Memory>
-    requires seat { IsSeatOf board.now.table.shared.table_id (L.limit_of board.now.layout) (L.lengths_of board.now.layout) seat.old }
+    requires seat { IsSeatOn board.now seat.old }
     requires range { (range < length (L.lengths_of board.now.layout)) × (times range (view_of seat.old).dry ≡ 0) }
     requires count { L.limit_of board.now.layout ≡ J.total jobs.now }
     requires worked { Worked (L.number_of board.now.layout) (J.answer_at jobs.now) (J.hits jobs.now) (view_of seat.old) found.old.items }
-    ensures seat { IsSeatOf board.now.table.shared.table_id (L.limit_of board.now.layout) (L.lengths_of board.now.layout) seat.new }
+    ensures seat { IsSeatOn board.now seat.new }
     ensures worked { IfOk result (λ _. Worked (L.number_of board.now.layout) (J.answer_at jobs.now) (J.hits jobs.now) (view_of seat.new) found.new.items) }
     ensures dry { IfOk result (λ _. (view_of seat.new).dry ≡ (view_of seat.old).dry ++ range ∷ []) }
     ensures drew { IfOk result (λ _. DrawsMore range (view_of seat.old).draws (view_of seat.new).draws) }
@@ -115,11 +116,11 @@ pub fn work<J: Jobs, G: Gate, L: Layout>(
     first: u32,
     found: &mut Seq<Found<J::Answer>>,
 ) -> Result<(), Memory>
-    requires seat { IsSeatOf board.now.table.shared.table_id (L.limit_of board.now.layout) (L.lengths_of board.now.layout) seat.old × IsEmptyView (view_of seat.old) }
+    requires seat { IsSeatOn board.now seat.old × IsEmptyView (view_of seat.old) }
     requires first { first < length (L.lengths_of board.now.layout) }
     requires count { L.limit_of board.now.layout ≡ J.total jobs.now }
     requires found { found.old.items ≡ [] }
-    ensures seat { IsSeatOf board.now.table.shared.table_id (L.limit_of board.now.layout) (L.lengths_of board.now.layout) seat.new }
+    ensures seat { IsSeatOn board.now seat.new }
     ensures worked { IfOk result (λ _. Worked (L.number_of board.now.layout) (J.answer_at jobs.now) (J.hits jobs.now) (view_of seat.new) found.new.items) }
     ensures dry { IfOk result (λ _. MetAllDry (L.lengths_of board.now.layout) (view_of seat.new)) }
     ensures order { IfOk result (λ _. InCyclicOrder first (length (L.lengths_of board.now.layout)) (view_of seat.new).draws) }

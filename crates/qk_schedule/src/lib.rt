@@ -10,8 +10,6 @@ mod quick_course;
 mod size;
 mod state;
 mod stop;
-#[cfg(test)]
-mod tests;
 
 pub use course::Course;
 pub use finish::Finish;

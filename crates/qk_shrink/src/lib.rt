@@ -11,8 +11,6 @@ mod numbers;
 mod seeking;
 mod sought;
 mod spread;
-#[cfg(test)]
-mod tests;
 
 pub use counting::value_count;
 pub use laws::{candidates_are_no_larger, candidates_are_small, candidates_have_the_type};

@@ -31,11 +31,13 @@ pub fn value_candidate(
 ) -> Result<Value, Memory>
     requires number { k < length (value_candidates kinds.now (view_type ty.now) (view_value value.now)) }
     requires small { IsSmall (view_value value.now) }
-    ensures { IfOk result (λ candidate. slice_get (value_candidates kinds.now (view_type ty.now) (view_value value.now)) k ≡ Some (view_value candidate)) }
+    ensures candidate { IfOk result (λ candidate. slice_get (value_candidates kinds.now (view_type ty.now) (view_value value.now)) k ≡ Some (view_value candidate)) }
+    ensures small { IfOk result (λ candidate. IsSmall (view_value candidate)) }
 {
     let shared = Shared::of_value(alloc, value)?;
     match seek(alloc, &shared, kinds, ty, k)? {
         Sought::Here(candidate) => {
+            candidate.is_small();
             let plain = candidate.to_value(alloc)?;
             Ok(plain)
         }

@@ -106,7 +106,8 @@ impl<'a> Spread<'a> {
     ) -> Result<Seq<Value>, Memory>
         requires number { k < length (spread_over self.now (map view_value values.now.items)) }
         requires small { AreSmall (map view_value values.now.items) }
-        ensures { IfOk result (λ candidate. slice_get (spread_over self.now (map view_value values.now.items)) k ≡ Some (map view_value candidate.items)) }
+        ensures candidate { IfOk result (λ candidate. slice_get (spread_over self.now (map view_value values.now.items)) k ≡ Some (map view_value candidate.items)) }
+        ensures small { IfOk result (λ candidate. AreSmall (map view_value candidate.items)) }
     {
         let shared = shared_all(alloc, values.as_slice())?;
         let candidate = self.candidate_shared(alloc, &shared, k)?;

@@ -5,8 +5,6 @@ mod attempts;
 mod choosing;
 mod gen_words;
 mod mixing;
-#[cfg(test)]
-mod tests;
 
 pub use attempts::{AttemptGens, attempt_gens};
 pub use choosing::choose;

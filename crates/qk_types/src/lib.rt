@@ -37,8 +37,6 @@ mod scopes;
 mod signatures;
 mod signed;
 mod tables;
-#[cfg(test)]
-mod tests;
 mod types_of;
 mod typing;
 mod weights;

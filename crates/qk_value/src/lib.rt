@@ -4,8 +4,6 @@
 mod kinds;
 mod order;
 mod print;
-#[cfg(test)]
-mod tests;
 mod ty;
 mod typing;
 mod value;

@@ -3,8 +3,6 @@
 
 mod laws;
 mod programs;
-#[cfg(test)]
-mod tests;
 
 pub use laws::{
     binders_stand, bodies_stand, clauses_stand, expressions_stand, generators_stand, headers_stand,

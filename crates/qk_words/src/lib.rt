@@ -7,8 +7,6 @@ mod numbers;
 mod options;
 mod reading;
 mod settings;
-#[cfg(test)]
-mod tests;
 mod walk;
 
 pub use command::read_accepted;

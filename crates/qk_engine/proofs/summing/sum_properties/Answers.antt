@@ -1,4 +1,4 @@
-use Rattle.std.proofs.Common.{◌<◌, ◌+◌, length, subst, ℕ, refl, arith}
+use Rattle.std.proofs.Common.{◌<◌, subst, ℕ, refl, arith}
 use Rattle.qk_engine.specs.Program.{is_passed, is_failed, is_gave_up}
 use Rattle.qk_engine.proofs.ProgramLaws.{some_at, attempts_next, counted_next, few_next}
 use Rattle.qk_engine.proofs.summing.sum_properties.Goals as goal

@@ -5,6 +5,7 @@ use Rattle.qk_minimise.proofs.frontier.first_failing.Goals as goal
 pub loop-first-init : goal.loop-first-init
 loop-first-init g c = record {
   within = omega arith;
+  sizes = (omega arith, omega arith);
   so_far = first_begins (g.F.Family.failing c.args.family.now) (g.F.Family.listed c.args.family.now c.args.spread.now);
 }
 
@@ -22,5 +23,6 @@ loop-first-preserved g c =
     let goes : c.loop-first.first + c.min-size.result ≤ c.count-count.result = omega arith in
     record {
       within = goes;
+      sizes = (omega (arith, c.loop-first.invariant.sizes.0), omega arith);
       so_far = first_goes_on failing listed c.loop-first.first c.min-size.result c.in_ok-place.place (omega (arith, goes, counted)) c.loop-first.invariant.so_far c.in_ok-place.ensures (sym c.is_some.ensures ∙ c.if-is_some.false);
     }

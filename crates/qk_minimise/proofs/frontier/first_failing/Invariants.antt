@@ -1,4 +1,4 @@
-use Rattle.std.proofs.Common.{◌-◌, ◌≤◌}
+use Rattle.std.proofs.Common.{◌-◌, ◌<◌, ◌≤◌}
 use Rattle.qk_minimise.proofs.Frontiers.{IsFirst}
 use Rattle.qk_minimise.proofs.frontier.first_failing.Given as goal
 
@@ -8,6 +8,7 @@ invariant-loop-first g l =
     let listed = g.F.Family.listed l.family l.spread in
     record {
       within : l.first ≤ l.count;
+      sizes : (0 < l.most) × (l.most ≤ 4096);
       so_far : IsFirst failing listed l.first;
     }
 

@@ -18,3 +18,16 @@ pub drive-requires-clause-tally_takes : goal.drive-requires-clause-tally_takes
 drive-requires-clause-tally_takes g c κs within =
     let trial = c.make-trial.result in
     tables_take_at c.args.property.now trial.property.now c.in_ok-tables.tables.property.now c.make-trial.ensures.property c.in_ok-tables.ensures.made trial.core.now trial.seed trial.fuel
+
+pub drive_freely-requires-sync-T : goal.drive_freely-requires-sync-T
+drive_freely-requires-sync-T g c κs within = search (core_sync, property_sync, crosses, sendable) depth 60 fits 20000
+
+pub drive_freely-requires-clause-course_takes : goal.drive_freely-requires-clause-course_takes
+drive_freely-requires-clause-course_takes g c κs within =
+    let trial = c.make-trial.result in
+    course_takes_at c.args.property.now trial.property.now c.make-course.result.limits c.make-trial.ensures.property (ap (λ (l : Limits). l.covers) (c.make-course.ensures ∙ c.in_ok-limits.ensures)) trial.core.now trial.seed trial.fuel
+
+pub drive_freely-requires-clause-tally_takes : goal.drive_freely-requires-clause-tally_takes
+drive_freely-requires-clause-tally_takes g c κs within =
+    let trial = c.make-trial.result in
+    tables_take_at c.args.property.now trial.property.now c.in_ok-tables.tables.property.now c.make-trial.ensures.property c.in_ok-tables.ensures.made trial.core.now trial.seed trial.fuel

@@ -5,6 +5,7 @@ use Rattle.qk_schedule.specs.Sequential.{sequential}
 use Rattle.qk_schedule.proofs.SequentialRun.{size_is_small}
 use Rattle.qk_rounds.specs.Commit.{StandsForPrefix}
 use Rattle.qk_rounds.proofs.CommitStep.{on_err-always}
+use Rattle.qk_rounds.proofs.FewAttempts.{attempts_are_few, both_ways}
 use Rattle.qk_rounds.proofs.Predicts.{Predicts, lawful_predicts}
 use Rattle.qk_rounds.proofs.Driving.{Ends, Stepped, reached_start, prefix_reached, prefix_committed, ends_stopped, stepped_by, window_ready}
 use Rattle.qk_rounds.proofs.run.drive.Goals as goal
@@ -36,6 +37,7 @@ loop-stop-init g c =
       same_outcomes = refl;
       next = record { at_first = λ _. refl; later = λ some. absurd (omega (arith, some, c.requires.fresh)) };
       takes = c.requires.tally_takes;
+      taking = λ other. (λ t. t, λ t. t);
       same_made = refl;
     })
 
@@ -58,7 +60,19 @@ returns-in-Some g c =
     let stopped : run_rules.stop state ≡ Some c.in-Some.stop = sym c.stop.ensures ∙ c.in-Some.is in
     let ends : Ends run_rules plans outcome c.args.window old state c.ended_by-finish.result before
     = ends_stopped run_rules plans outcome proper c.args.window old state number before c.in-Some.stop c.ended_by-finish.result inv.reached stopped c.ended_by-finish.ensures in
-    record { run = ends.run; tally = ends.tally; work = ends.work_is; bounds = (ends.rounds, ends.trials); memory = tt; same_made = inv.same_made }
+    let met = g.met.C.Course g.world.𝓛 g.world.𝓜 g.world.𝓡 ((λ s x. x), (λ x. x), (λ x. x), λ x. x) in
+    let laws : Lawful run_rules plans takes proper (g.C.Course.goes_on course) = met.lawful course in
+    record {
+      run = ends.run;
+      tally = ends.tally;
+      work = ends.work_is;
+      bounds = (ends.rounds, ends.trials);
+      few = attempts_are_few run_rules plans takes proper (g.C.Course.goes_on course) laws outcome c.requires.course_takes;
+      memory = tt;
+      same_outcomes = inv.same_outcomes;
+      taking = inv.taking;
+      same_made = inv.same_made;
+    }
 
 pub returns-in_err-prepare-clause-memory : goal.returns-in_err-prepare-clause-memory
 returns-in_err-prepare-clause-memory g c =
@@ -193,7 +207,17 @@ returns-in-Some-finish g c =
     c.commit.new.state end.next end.finish c.requires.window inv.reached running same c.in_ok-settled.ensures c.folded.ensures.slots c.in_ok-end.ensures.ok in
     let ends : Ends run_rules plans outcome c.args.window (g.K.Tally.stands_for c.commit.new.tally) c.commit.new.state c.in-Some-finish.finish settled.work
     = step.ends c.in-Some-finish.finish c.in-Some-finish.is in
-    record { run = ends.run; tally = ends.tally; work = ends.work_is; bounds = (ends.rounds, ends.trials); memory = tt; same_made = c.in_ok-end.ensures.same_made ∙ inv.same_made }
+    record {
+      run = ends.run;
+      tally = ends.tally;
+      work = ends.work_is;
+      bounds = (ends.rounds, ends.trials);
+      few = attempts_are_few run_rules plans takes proper (g.C.Course.goes_on course) laws outcome c.requires.course_takes;
+      memory = tt;
+      same_outcomes = same;
+      taking = λ other. both_ways _ _ _ (c.in_ok-end.ensures.taking other) (inv.taking other);
+      same_made = c.in_ok-end.ensures.same_made ∙ inv.same_made;
+    }
 
 pub loop-stop-smaller : goal.loop-stop-smaller
 loop-stop-smaller g c =
@@ -253,5 +277,6 @@ loop-stop-preserved g c =
       same_outcomes = same;
       next = step.prepares none (g.T.Trial.prepared c.prepare.new.self) c.in_ok-prepare.ensures.ok;
       takes = λ k size fits passed. (c.in_ok-end.ensures.taking (outcome k size)).1 (inv.takes k size fits passed);
+      taking = λ other. both_ways _ _ _ (c.in_ok-end.ensures.taking other) (inv.taking other);
       same_made = c.in_ok-end.ensures.same_made ∙ inv.same_made;
     }

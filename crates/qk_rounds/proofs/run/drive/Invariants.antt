@@ -1,4 +1,5 @@
-use Rattle.std.proofs.Common.{◌≡◌}
+use Rattle.std.proofs.Common.{◌≡◌, ◌↔◌}
+use Rattle.qk_base.specs.Judged.{Judged}
 use Rattle.qk_schedule.specs.Course.{TakesAll}
 use Rattle.qk_rounds.specs.Trial.{MayPrepare}
 use Rattle.qk_rounds.proofs.Driving.{Reached}
@@ -13,6 +14,7 @@ invariant-loop-stop g l =
       same_outcomes : g.T.Trial.outcome l.trial ≡ outcome;
       next : MayPrepare (g.T.Trial.prepared l.trial) l.number;
       takes : TakesAll (g.K.Tally.takes l.tally) outcome;
+      taking : (other : Judged) → g.K.Tally.takes l.tally other ↔ g.K.Tally.takes l.fn.tally other;
       same_made : g.K.Tally.made l.tally ≡ g.K.Tally.made l.fn.tally;
     }
 

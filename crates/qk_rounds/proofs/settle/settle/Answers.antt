@@ -11,7 +11,7 @@ returns-in-None g c =
     let outcome = g.T.Trial.outcome c.args.trial.now in
     let inv = c.loop-done.invariant in
     let window = c.len-window.result in
-    let round : Undue plans c.args.state.now c.loop-done.slots c.round.new.slots = rw c.in-None.is at c.in_ok-round.ensures.ok in
+    let round : Undue plans c.args.state.now c.loop-done.slots c.round_paced.new.slots = rw c.in-None.is at c.in_ok-round_paced.ensures.ok in
     rw round.slots (settled_now plans outcome c.args.state.now c.args.from c.args.slots.now c.loop-done.slots c.args.begun c.loop-done.work window (window - c.loop-done._done)
     c.len-window.ensures inv.told (record {
       same_length = inv.same_length ∙ c.len-window.ensures;
@@ -29,11 +29,11 @@ loop-done-preserved g c =
     let plans = g.C.Course.plans c.args.course.now in
     let outcome = g.T.Trial.outcome c.args.trial.now in
     let inv = c.loop-done.invariant in
-    let round : Repaired run_rules plans outcome c.args.state.now c.args.from c.loop-done.slots c.round.new.slots c.in-Some.count = rw c.in-Some.is at c.in_ok-round.ensures.ok in
-    let adds : Adds outcome c.args.from c.loop-done.slots c.round.new.slots c.in-Some.count
-    = round_adds run_rules plans outcome c.args.state.now c.args.from c.loop-done.slots c.round.new.slots c.in-Some.count inv.knows round in
+    let round : Repaired run_rules plans outcome c.args.state.now c.args.from c.loop-done.slots c.round_paced.new.slots c.in-Some.count = rw c.in-Some.is at c.in_ok-round_paced.ensures.ok in
+    let adds : Adds outcome c.args.from c.loop-done.slots c.round_paced.new.slots c.in-Some.count
+    = round_adds run_rules plans outcome c.args.state.now c.args.from c.loop-done.slots c.round_paced.new.slots c.in-Some.count inv.knows round in
     record {
-      told = told_on run_rules plans outcome c.args.state.now c.args.from c.loop-done.slots c.round.new.slots c.loop-done.work c.len-window.result c.loop-done._done _ _ c.loop-done-test.true round inv.told;
+      told = told_on run_rules plans outcome c.args.state.now c.args.from c.loop-done.slots c.round_paced.new.slots c.loop-done.work c.len-window.result c.loop-done._done _ _ c.loop-done-test.true round inv.told;
       exact_so_far = let more = round.longer in let so_far = inv.exact_so_far in omega (arith, more, so_far);
       knows = adds.knows;
       same_length = adds.same_length ∙ inv.same_length;

@@ -13,8 +13,8 @@ unreachable-requires c =
     let same = c.in_ok-candidate.ensures ∙ ap (λ d. sought (value_candidates kinds ty d) c.args.k) c.in_ok-shared.ensures in
     not_past (value_candidates kinds ty (view_value c.args.value.now)) c.args.k c.in-Past.field-0 c.requires.number (sym same ∙ c.in-Past.is)
 
-pub returns : goal.returns
-returns c =
+pub returns-clause-candidate : goal.returns-clause-candidate
+returns-clause-candidate c =
     let kinds = c.args.kinds.now in
     let ty = view_type c.args.ty.now in
     let same = c.in_ok-candidate.ensures ∙ ap (λ d. sought (value_candidates kinds ty d) c.args.k) c.in_ok-shared.ensures in

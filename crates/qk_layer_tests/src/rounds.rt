@@ -1,0 +1,152 @@
+//! Runs by windows of a trial whose outcomes depend on the size alone.
+ghost use Rattle.std.specs.Prelude.{◌≡◌, ℕ, nat_eq, [], length, if◌then◌else◌};
+ghost use Rattle.qk_base.specs.declared.outcome.Verdict.TheVariants as verdicts;
+ghost use Rattle.qk_base.specs.declared.outcome.Cause.TheVariants as causes;
+
+use qk_base::{Bytes, Cause, Marks, Memory, OpenGate, Outcome, Seq, Tally, Verdict};
+use qk_rounds::{Finish, Slots, Trial, Work, drive, round};
+use qk_schedule::{Course, Limits, QuickCourse};
+use std::alloc::Global;
+use std::test::Fail;
+
+mod compared;
+mod plain;
+
+/// Attempts of size 1 are discarded, those of size 3 fail, all others pass.
+#[derive(Drop)]
+struct Sizes {
+    first: u64,
+    count: u32,
+}
+
+impl Trial for Sizes {
+    ghost outcome = { λ _ _ size. record { verdict = (if nat_eq size 1 then verdicts.Discard else (if nat_eq size 3 then verdicts.Fail causes.False else verdicts.Pass)); marks = record { label = []; classes = []; entries = []; covers = [] } } };
+
+    ghost prepared = { λ trial. record { first = trial.first; count = trial.count } };
+
+    fn prepare(&mut self, _alloc: Global, from: u64, count: u32) -> Result<(), Memory> {
+        self.first = from;
+        self.count = count;
+        Ok(())
+    }
+
+    fn perform(&self, alloc: Global, _number: u64, size: u32) -> Result<Outcome, Memory> {
+        let verdict = if size == 1 {
+            Verdict::Discard
+        } else if size == 3 {
+            Verdict::Fail(Cause::False)
+        } else {
+            Verdict::Pass
+        };
+        let marks = Marks {
+            label: Bytes::make(alloc),
+            classes: Seq::make(alloc),
+            entries: Seq::make(alloc),
+            covers: Seq::make(alloc),
+        };
+        Ok(Outcome { verdict, marks })
+    }
+}
+
+/// How many outcomes were added.
+#[derive(Drop)]
+struct Added {
+    count: u64,
+}
+
+impl Tally for Added {
+    type Made = ();
+
+    ghost stands_for = { λ tally outcomes. tally.count ≡ length outcomes };
+
+    ghost takes = { λ _ _. Unit {0} };
+
+    ghost made = { λ _. tt };
+
+    fn add(&mut self, _alloc: Global, _outcome: &Outcome) -> Result<(), Memory> {
+        if self.count == u64::MAX {
+            return Err(Memory);
+        }
+        self.count += 1;
+        Ok(())
+    }
+}
+
+const USUAL: Limits = Limits {
+    success: 100,
+    ratio: 10,
+    max_size: 100,
+    covers: 0,
+};
+
+const FOURTEEN: Work = Work {
+    windows: 14,
+    rounds: 14,
+    trials: 14,
+};
+
+const THIRTY: Work = Work {
+    windows: 2,
+    rounds: 11,
+    trials: 30,
+};
+
+#[test]
+fn runs_do_not_depend_on_workers(rt: HostRuntime) -> Result<(), Fail> {
+    for (workers, window, work) in [
+        (1, 1, FOURTEEN),
+        (64, 1, FOURTEEN),
+        (1, 8, THIRTY),
+        (2, 8, THIRTY),
+        (64, 8, THIRTY),
+    ] {
+        let mut trial = Sizes { first: 0, count: 0 };
+        let mut tally = Added { count: 0 };
+        let course = QuickCourse::make(USUAL);
+        let ended = drive(
+            &rt,
+            rt.alloc(),
+            &OpenGate,
+            &course,
+            &mut trial,
+            &mut tally,
+            workers,
+            window,
+        )?;
+        let cause = Cause::False;
+        assert_eq!(rt;
+            ended.finish,
+            Finish::Failed {
+                attempt: 13,
+                size: 3,
+                cause
+            }
+        );
+        assert_eq!(rt; ended.state.successes, 3);
+        assert_eq!(rt; ended.state.discards, 10);
+        assert_eq!(rt; ended.work, work, "{workers} workers, window {window}");
+        assert_eq!(rt; tally.count, 13);
+    }
+    Ok(())
+}
+
+#[test]
+fn a_round_stores_answers_up_to_the_first_failure(rt: HostRuntime) -> Result<(), Fail> {
+    let trial = Sizes { first: 0, count: 8 };
+    let course = QuickCourse::make(USUAL);
+    let state = course.start(rt.alloc())?;
+    let mut slots = Slots::make(rt.alloc(), 8)?;
+    let stored = round(
+        &rt,
+        rt.alloc(),
+        &OpenGate,
+        &course,
+        &trial,
+        &state,
+        0,
+        &mut slots,
+        2,
+    )?;
+    assert_eq!(rt; stored, Some(4));
+    Ok(())
+}
