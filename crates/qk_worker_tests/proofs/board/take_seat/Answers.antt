@@ -2,7 +2,7 @@ use Rattle.std.proofs.Common.{◌≡◌, [], ◌∷◌, ◌++◌, All, sym, subs
 use Rattle.qk_board.specs.declared.seat.BoardSeat.{BoardSeat}
 use Rattle.qk_board.specs.Seats.{IsSeatOf}
 use Rattle.qk_totals.proofs.Gather.{all_last, all_front, one_shorter}
-use Rattle.qk_layer_tests.proofs.board.take_seat.Goals as goal
+use Rattle.qk_worker_tests.proofs.board.take_seat.Goals as goal
 
 pub returns : goal.returns
 returns g c =

@@ -4,7 +4,7 @@ use native.Mathlib.Decide.{dec_le}
 use Rattle.qk_totals.specs.Totals.{drawn}
 use Rattle.qk_totals.proofs.Totals.{drawn_append, draw_same}
 use Rattle.qk_path.specs.Walkers.{view_of}
-use Rattle.qk_layer_tests.proofs.path.claim.Goals as goal
+use Rattle.qk_worker_tests.proofs.path.claim.Goals as goal
 
 pub returns-clause-drawn : goal.returns-clause-drawn
 returns-clause-drawn c =

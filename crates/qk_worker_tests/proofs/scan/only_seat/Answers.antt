@@ -3,7 +3,7 @@ use Rattle.qk_totals.proofs.Gather.{all_last}
 use Rattle.qk_board.specs.declared.seat.BoardSeat.{BoardSeat}
 use Rattle.qk_board.specs.Views.{IsEmptyView}
 use Rattle.qk_board.specs.Seats.{view_of, IsSeatOf}
-use Rattle.qk_layer_tests.proofs.scan.only_seat.Goals as goal
+use Rattle.qk_worker_tests.proofs.scan.only_seat.Goals as goal
 
 pub returns : goal.returns
 returns g c =

@@ -1,7 +1,7 @@
 use Rattle.std.proofs.Common.{◌+◌, ◌-◌, ◌/◌, ◌^◌, min, arith}
 use Rattle.std.proofs.lemmas.List.FromFn.{length-map-range_with_len}
 use Rattle.qk_minimise.proofs.Numbered.{map_at}
-use Rattle.qk_layer_tests.proofs.minimise.HalvesFamily.child.Goals as goal
+use Rattle.qk_worker_tests.proofs.minimise.HalvesFamily.child.Goals as goal
 
 pub returns : goal.returns
 returns c =

@@ -1,7 +1,7 @@
 use Rattle.std.proofs.Common.{sym, ◌∙◌}
 use Rattle.qk_minimise.proofs.Frontiers.{first_begins}
 use Rattle.qk_minimise.proofs.OneByOne.{next_fails, next_passes}
-use Rattle.qk_layer_tests.proofs.minimise.plain.first_failing.Goals as goal
+use Rattle.qk_worker_tests.proofs.minimise.plain.first_failing.Goals as goal
 
 pub loop-k-init : goal.loop-k-init
 loop-k-init g c = first_begins (g.F.Family.failing c.args.family.now) (g.F.Family.listed c.args.family.now c.args.spread.now)

@@ -2,7 +2,7 @@ use Rattle.std.proofs.Common.{◌≡◌, ◌+◌, ◌-◌, ◌<◌, false, Some,
 use Rattle.qk_minimise.specs.Descent.{descent}
 use Rattle.qk_minimise.specs.Minimal.{minimal_of}
 use Rattle.qk_minimise.proofs.Descents.{after, ends, goes_on, place_within, one_of_all}
-use Rattle.qk_layer_tests.proofs.minimise.plain.slow_descent.Goals as goal
+use Rattle.qk_worker_tests.proofs.minimise.plain.slow_descent.Goals as goal
 
 pub returns-in_default : goal.returns-in_default
 returns-in_default g c =

@@ -1,7 +1,7 @@
 use Rattle.std.proofs.Common.{◌≡◌, ◌-◌, ◌*◌, ◌^◌, ◌≤◌}
 use Rattle.qk_minimise.specs.Descent.{descent}
 use Rattle.qk_minimise.proofs.Descents.{after}
-use Rattle.qk_layer_tests.proofs.minimise.plain.slow_descent.Given as goal
+use Rattle.qk_worker_tests.proofs.minimise.plain.slow_descent.Given as goal
 
 abbrev pub invariant-loop-step : goal.invariant-loop-step
 invariant-loop-step g l =
