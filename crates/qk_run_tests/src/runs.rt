@@ -7,6 +7,7 @@ use std::test::Fail;
 use std::thread::Threads;
 
 mod calm;
+mod fuel;
 mod generated;
 mod hostile;
 mod marks;
