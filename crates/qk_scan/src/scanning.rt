@@ -162,16 +162,9 @@ fn scan_together<R: Threads + Sync, J: Jobs, G: Gate>(
 {
     let count = jobs.count();
     let (board, seats) = Board::make(alloc, Strides::make(count, workers), workers)?;
-    let ready = hire(alloc, &board, seats, share_of(count, workers))?;
+    let ready = hire(alloc, &board, seats, count as usize)?;
     let room = make_room(alloc, jobs, workers)?;
     gather(rt, alloc, gate, jobs, board, ready, room, pace)
-}
-
-/// Room for the numbers of a worker's own and as many of the others.
-fn share_of(count: u32, workers: u32) -> usize
-    requires { (0 < workers) × (count ≤ 4096) }
-{
-    (2 * (count / workers) + 2).min(count) as usize
 }
 
 /// The answers that the calling thread finds alone, one after another.
@@ -198,8 +191,8 @@ fn scan_alone<J: Jobs, G: Gate>(alloc: Global, gate: &G, jobs: &J) -> Result<Seq
 /// The answers of the jobs 0, 1 and so on, up to and including the first that hits, or of all jobs where none hits. The answer is
 /// the same for every number of workers and every interleaving of their steps. As in QuickerCheck, each worker has numbers of its own
 /// and takes from the others once these are used up. No more workers start than there are jobs, and where that is one the calling thread
-/// performs the jobs in order. Room for the answers is taken before the workers start; a worker that performs more than twice its share
-/// takes more.
+/// performs the jobs in order. Room for all answers is taken for each worker before the first starts: from then on only the jobs take
+/// memory.
 pub fn scan<R: Threads + Sync, J: Jobs, G: Gate>(
     rt: &R,
     alloc: Global,
