@@ -1,3 +1,4 @@
+pub mod Agreeing
 pub mod GeneratedLines
 pub mod GeneratedNames
 pub mod GeneratedProgram

@@ -73,13 +73,13 @@ one_property c t None s text u other (e, is) (f, js) = (e ∙ sym f, is ∙ sym 
 one_property c t (Some p) s text u other a b = one_point c p t (point_of c p t) s text u other a b
 
 -- the replies to a program
-one_to_program : (r : ReportSettings) (c : ProgramData) (aim : AimData) → ((file : List ℕ) → aim ≡ whole file → r.greedy ≡ false) → IsOne (program_reply aim r c)
+pub one_to_program : (r : ReportSettings) (c : ProgramData) (aim : AimData) → ((file : List ℕ) → aim ≡ whole file → r.greedy ≡ false) → IsOne (program_reply aim r c)
 one_to_program r c (whole name) plain s text u other a b = one_report r c (plain name refl) s text u other a b
 one_to_program r c (replayed token name) plain s text u other a b = one_property c token (slice_get c.properties token.property) s text u other a b
 one_to_program r c (generated n) plain s text u other (e, is) (f, js) = (e ∙ sym f, is ∙ sym js)
 
 -- a file has one fault at most
-faults_are_one : (bytes : List ℕ) (r q : Refusal) → IsFault bytes r → IsFault bytes q → r ≡ q
+pub faults_are_one : (bytes : List ℕ) (r q : Refusal) → IsFault bytes r → IsFault bytes q → r ≡ q
 faults_are_one bytes r q (inl e) (inl f) = let both = sym e ∙ f in cc
 faults_are_one bytes r q (inl e) (inr trees) = let both = sym (spelled_has_no_fault bytes trees.0 trees.1) ∙ e in absurd (cc)
 faults_are_one bytes r q (inr trees) (inl f) = let both = sym (spelled_has_no_fault bytes trees.0 trees.1) ∙ f in absurd (cc)

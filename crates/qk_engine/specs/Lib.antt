@@ -1,3 +1,4 @@
+pub mod Agreeing
 pub mod Generated
 pub mod Laws
 pub mod Program

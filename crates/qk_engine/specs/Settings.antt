@@ -1,5 +1,5 @@
 -- What the report depends on, of the settings that words give.
-use Rattle.std.specs.Prelude.{ℕ}
+use Rattle.std.specs.Prelude.{ℕ, Bool}
 use Rattle.qk_property.specs.Settings.{ReportSettings, told_window_of}
 use Rattle.qk_words.specs.SettingsData.{SettingsData}
 
@@ -43,6 +43,22 @@ with_window n d = record {
   window = n;
   shrinks = d.shrinks;
   greedy = d.greedy;
+  work = d.work;
+  aim = d.aim;
+}
+
+-- the settings with greedy shrinking, or without
+abbrev pub with_greedy : Bool → SettingsData → SettingsData
+with_greedy b d = record {
+  seed = d.seed;
+  success = d.success;
+  ratio = d.ratio;
+  max_size = d.max_size;
+  fuel = d.fuel;
+  workers = d.workers;
+  window = d.window;
+  shrinks = d.shrinks;
+  greedy = b;
   work = d.work;
   aim = d.aim;
 }
