@@ -54,14 +54,20 @@ shrunk_by b s = record {
   told_window = s.told_window;
 }
 
-
 module _ (agree : ℕ → PropertyData → List ℕ → List ℕ → Type 0) where
   -- texts that agree block by block agree with the same text behind them
   with_last : (number : ℕ) (ps : List PropertyData) (one other last : List ℕ) → AgreeInBlocks agree number ps one other → AgreeInBlocks agree number ps (one ++ last) (other ++ last)
   with_last number [] one other last e = ap (λ x. x ++ last) e
-  with_last number (p ∷ ps) one other last (a, b, more, rest, agrees, are, e, f) =
-      (a, b, more ++ last, rest ++ last, agrees, with_last (number + 1) ps more rest last are,
-      ap (λ x. x ++ last) e ∙ append_assoc a more last, ap (λ x. x ++ last) f ∙ append_assoc b rest last)
+  with_last number (p ∷ ps) one other last (a, b, more, rest, agrees, are, e, f) = (
+    a,
+    b,
+    more ++ last,
+    rest ++ last,
+    agrees,
+    with_last (number + 1) ps more rest last are,
+    ap (λ x. x ++ last) e ∙ append_assoc a more last,
+    ap (λ x. x ++ last) f ∙ append_assoc b rest last,
+  )
 
 module _ (s : ReportSettings) (c : ProgramData) where
   -- the block is the same but for what stands behind it
@@ -94,10 +100,11 @@ module _ (s : ReportSettings) (c : ProgramData) where
     block_otherwise work number p finish.GaveUp text e =
         (property_block c.kinds number p (run_of s c p).done (told (told_by (told_window_of work m) s) c p nothing False), refl, tells_other work number p nothing False text e)
     block_otherwise work number p (finish.Failed k size why) text (last, is, e) =
-        let cause = unwrap_or (cause_at c p s.fuel last.point) False in
-        (property_block c.kinds number p (run_of s c p).done (told (told_by (told_window_of work m) s) c p last cause),
-        (last, shrunk_too (told_window_of work n) (told_window_of work m) s.greedy p (drawn_at c p s.seed s.fuel k size) last is, refl),
-        tells_other work number p last cause text e)
+        let cause = unwrap_or (cause_at c p s.fuel last.point) False in (
+          property_block c.kinds number p (run_of s c p).done (told (told_by (told_window_of work m) s) c p last cause),
+          (last, shrunk_too (told_window_of work n) (told_window_of work m) s.greedy p (drawn_at c p s.seed s.fuel k size) last is, refl),
+          tells_other work number p last cause text e,
+        )
 
     blocks_otherwise : (work : Bool) (number : ℕ) (ps : List PropertyData) (text : List ℕ) → AreBlocks (told_by (told_window_of work n) s) c number ps text
         → (other : List ℕ) × AreBlocks (told_by (told_window_of work m) s) c number ps other × AgreeInBlocks TellOtherWork number ps text other
@@ -105,24 +112,26 @@ module _ (s : ReportSettings) (c : ProgramData) where
     blocks_otherwise work number (p ∷ ps) text (block, rest, is, are, e) =
         let one = block_otherwise work number p (run_of s c p).finish block is in
         let more = blocks_otherwise work (number + 1) ps rest are in
-        (one.0 ++ more.0, (one.0, more.0, one.1.0, more.1.0, refl), (block, one.0, rest, more.0, one.1.1, more.1.1, e, refl))
+        (one.0 ++ more.0, (one.0, more.0, one.1, more.1, refl), (block, one.0, rest, more.0, one.2, more.2, e, refl))
 
     report_otherwise : (work : Bool) (text : List ℕ) → IsReport (told_by (told_window_of work n) s) c text
         → (other : List ℕ) × IsReport (told_by (told_window_of work m) s) c other × AgreeInBlocks TellOtherWork 0 c.properties text other
     report_otherwise work text (blocks, are, e) =
-        let more = blocks_otherwise work 0 c.properties blocks are in
-        (more.0 ++ totals_line s c, (more.0, more.1.0, refl),
-        subst (λ (x : List ℕ). AgreeInBlocks TellOtherWork 0 c.properties x (more.0 ++ totals_line s c)) (sym e)
-        (with_last TellOtherWork 0 c.properties blocks more.0 (totals_line s c) more.1.1))
+        let more = blocks_otherwise work 0 c.properties blocks are in (
+          more.0 ++ totals_line s c,
+          (more.0, more.1, refl),
+          subst (λ (x : List ℕ). AgreeInBlocks TellOtherWork 0 c.properties x (more.0 ++ totals_line s c)) (sym e)
+              (with_last TellOtherWork 0 c.properties blocks more.0 (totals_line s c) more.2),
+        )
 
 -- the reply to a file with another window
 file_otherwise : (aim : AimData) (r : ReportSettings) (work : Bool) (n m : ℕ) (bytes : List ℕ) (s : Status) (text : List ℕ)
     → FileReply (program_reply aim (told_by (told_window_of work n) r)) bytes s text
     → (other : List ℕ) × FileReply (program_reply aim (told_by (told_window_of work m) r)) bytes s other × AgreeOn (λ c. TellOtherWork) bytes text other
 file_otherwise aim r work n m bytes s text (inl refused) = (text, inl refused, inl refl)
-file_otherwise (whole name) r work n m bytes s text (inr (c, program, e, report)) =
+file_otherwise (whole name) r work n m bytes s text (inr (c, program, (e, report))) =
     let other = report_otherwise r c n m work text report in
-    (other.0, inr (c, program, e, other.1.0), inr (c, program, other.1.1))
+    (other.0, inr (c, program, (e, other.1)), inr (c, program, other.2))
 file_otherwise (replayed token name) r work n m bytes s text (inr (c, program, said)) = (text, inr (c, program, said), inl refl)
 file_otherwise (generated number) r work n m bytes s text (inr (c, program, said)) = (text, inr (c, program, said), inl refl)
 
@@ -137,10 +146,16 @@ module _ (s : ReportSettings) (c : ProgramData) where
   shrunk_otherwise number p (finish.Failed k size why) one other e (m, is, a) (n, js, b) =
       let t = told s c p m (unwrap_or (cause_at c p s.fuel m.point) False) in
       let u = told s c p n (unwrap_or (cause_at c p s.fuel n.point) False) in
-      inr ((run_of s c p).state.successes, (run_of s c p).state.discards, failure_of t k size, failure_of u k size, work_text t.work,
-      record { attempt = refl; size = refl; seed = refl; fuel = refl },
-      a ∙ ap (λ x. ended_block c.kinds number p (run_of s c p).done t x ++ work_text t.work) e,
-      b ∙ ap (λ x. ended_block c.kinds number p (run_of s c p).done u x ++ work_text u.work) e)
+      inr (
+        (run_of s c p).state.successes,
+        (run_of s c p).state.discards,
+        failure_of t k size,
+        failure_of u k size,
+        work_text t.work,
+        record { attempt = refl; size = refl; seed = refl; fuel = refl },
+        a ∙ ap (λ x. ended_block c.kinds number p (run_of s c p).done t x ++ work_text t.work) e,
+        b ∙ ap (λ x. ended_block c.kinds number p (run_of s c p).done u x ++ work_text u.work) e,
+      )
 
   all_shrunk_otherwise : (number : ℕ) (ps : List PropertyData) (one other : List ℕ) → AreBlocks (shrunk_by true s) c number ps one → AreBlocks (shrunk_by false s) c number ps other
       → AgreeInBlocks (AreShrunkOtherwise c.kinds) number ps one other
@@ -166,7 +181,7 @@ program_shrunk_otherwise (generated n) r bytes c program s text t other (e, a) (
 file_shrunk_otherwise : (aim : AimData) (r : ReportSettings) (bytes : List ℕ) (s : Status) (text : List ℕ) (t : Status) (other : List ℕ)
     → FileReply (program_reply aim (shrunk_by true r)) bytes s text → FileReply (program_reply aim (shrunk_by false r)) bytes t other
     → (s ≡ t) × AgreeOn (λ c. AreShrunkOtherwise c.kinds) bytes text other
-file_shrunk_otherwise aim r bytes s text t other (inl (q, fault, e, is)) (inl (o, same, f, js)) = (e ∙ sym f, inl (is ∙ (ap refusal (faults_are_one bytes q o fault same) ∙ sym js)))
+file_shrunk_otherwise aim r bytes s text t other (inl (q, fault, (e, is))) (inl (o, same, (f, js))) = (e ∙ sym f, inl (is ∙ (ap refusal (faults_are_one bytes q o fault same) ∙ sym js)))
 file_shrunk_otherwise aim r bytes s text t other (inl (q, fault, refuses)) (inr (c, program, said)) = absurd (program_has_no_fault bytes c program q fault)
 file_shrunk_otherwise aim r bytes s text t other (inr (c, program, said)) (inl (q, fault, refuses)) = absurd (program_has_no_fault bytes c program q fault)
 file_shrunk_otherwise aim r bytes s text t other (inr (c, program, a)) (inr (d, same, b)) =

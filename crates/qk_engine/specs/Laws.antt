@@ -1,5 +1,5 @@
 -- What settings do not decide.
-use Rattle.std.specs.Prelude.{◌≡◌, ◌↔◌, ℕ, Bool, true, false, List, ⊥}
+use Rattle.std.specs.Prelude.{◌≡◌, ◌↔◌, ℕ, Bool, true, false, List}
 use Rattle.qk_base.specs.declared.status.Status.{Status}
 use Rattle.qk_words.specs.Given.{AreSettings}
 use Rattle.qk_words.specs.SettingsData.{SettingsData, whole}

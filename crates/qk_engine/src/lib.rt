@@ -18,8 +18,8 @@ mod totals;
 
 pub use calm::{run_calm, run_into_calm, run_with_calm};
 pub use laws::{
-    greedy_decides_only_shrinks, greedy_is_for_files, replies_are_one, replies_exist, window_decides_only_work_lines, window_decides_work_lines,
-    workers_decide_nothing,
+    greedy_decides_only_shrinks, greedy_is_for_files, replies_are_one, replies_exist,
+    window_decides_only_work_lines, window_decides_work_lines, workers_decide_nothing,
 };
 pub use made::Made;
 pub use qk_words::{Aim, Settings, WordsFault, read_words};
