@@ -22,17 +22,17 @@ AllHave kinds t ds = IsTrue (all_have_type kinds t ds)
 abbrev AreParts : List KindData → List TypeData → Datas → Type 0
 AreParts kinds ts ds = IsTrue (are_parts kinds (Some ts) ds)
 
-both : (b c : Bool) → IsTrue (b && c) → IsTrue b × IsTrue c
+pub both : (b c : Bool) → IsTrue (b && c) → IsTrue b × IsTrue c
 both true true h = (h, h)
 both true false h = cc
 both false c h = cc
 
-conj : (b c : Bool) → IsTrue b → IsTrue c → IsTrue (b && c)
+pub conj : (b c : Bool) → IsTrue b → IsTrue c → IsTrue (b && c)
 conj true true h k = h
 conj true false h k = cc
 conj false c h k = cc
 
-same_number : (k l : ℕ) → IsTrue (nat_eq k l) → k ≡ l
+pub same_number : (k l : ℕ) → IsTrue (nat_eq k l) → k ≡ l
 same_number k l h = grind arith
 
 first_has : (kinds : List KindData) (t : TypeData) (d : Data) (ds : Datas) → AllHave kinds t (more d ds) → Has kinds t d × AllHave kinds t ds
