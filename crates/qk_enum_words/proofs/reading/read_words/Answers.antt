@@ -11,8 +11,8 @@ settings_for-requires c =
     let accepted : IsAccepted (map string_bytes c.args.words.now) = c.if-not-are_accepted.ensures.0 refl in
     (accepted.0, subst (AreMatches accepted.0) (sym c.in-Ok.ensures.ok) (matched (map string_bytes c.args.words.now) accepted.0 accepted.1))
 
-pub returns-in-Ok-clause-ok : goal.returns-in-Ok-clause-ok
-returns-in-Ok-clause-ok c =
+pub returns-clause-ok : goal.returns-clause-ok
+returns-clause-ok c =
     let accepted : IsAccepted (map string_bytes c.args.words.now) = c.if-not-are_accepted.ensures.0 refl in
     let found : AreMatches accepted.0 (rows_of (found_of c.in-Ok.matches)) = subst (AreMatches accepted.0) (sym c.in-Ok.ensures.ok) (matched (map string_bytes c.args.words.now) accepted.0 accepted.1) in
     (accepted.0, (accepted.1, c.settings_for.ensures.given accepted.0 found))

@@ -1,0 +1,12 @@
+//! The report of an exhaustive run of a program: its properties' cases, their blocks and the last line.
+#![tactic(auto)]
+
+mod blocks;
+mod cases;
+mod lines;
+mod reporting;
+mod settings;
+
+pub use cases::PropertyCases;
+pub use reporting::{CaseReport, report_cases};
+pub use settings::CaseSettings;
