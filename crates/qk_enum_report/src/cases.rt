@@ -53,7 +53,8 @@ impl<'c> PropertyCases<'c> {
         requires { number < min (length (cases_of self.now.core.now self.now.property.now self.now.depth)) (2 ^ 40) }
         ensures { IfOk result (λ case. case_in case ≡ case_of (get_or (cases_of self.now.core.now self.now.property.now self.now.depth) number [])) }
     {
-        let binders = self.property.binders.as_slice();
+        let property = self.property;
+        let binders = property.binders.as_slice();
         self.counts.case_at(alloc, binders, self.depth, number)
     }
 
@@ -78,7 +79,8 @@ impl<'c> Cases for PropertyCases<'c> {
     ghost verdicts = { λ cases. verdicts_of cases.core.now cases.property.now cases.depth cases.fuel };
 
     fn count(&self) -> u64 {
-        let binders = self.property.binders.as_slice();
+        let property = self.property;
+        let binders = property.binders.as_slice();
         self.counts.count_cases(binders, self.depth)
     }
 

@@ -1,6 +1,6 @@
 //! The program of a file.
 ghost use Rattle.std.specs.Prelude.{◌≤◌, IfOk, length};
-ghost use Rattle.qk_engine.specs.Reading.{IsChecked, IsRead};
+ghost use Rattle.qk_file.specs.Reading.{IsChecked, IsRead};
 ghost use Rattle.qk_syntax.specs.View.{views};
 
 use qk_base::{Fault, Memory, Refusal, Seq};
