@@ -22,13 +22,14 @@ small_is x y e = by (nat_lt 65536 (weight x)) refl (nat_lt 200 (depth x)) refl e
     by false p true q k = cc
     by false p false q k = subst IsSmall (ap (λ r. ok_or r x) k) (grind (arith, nat_tests, p), grind (arith, nat_tests, q))
 
+next_small : (x : Data) (before xs : List Data) (r : Result Data Cause) → small x ≡ r → AreSmall before → ((y : Data) → AreSmall (before ++ y ∷ []) → AreSmall (case_from (before ++ y ∷ []) xs).values)
+    → AreSmall (after_value before r (λ y. case_from (before ++ y ∷ []) xs)).values
+next_small x before xs (Err c) e h rest = h
+next_small x before xs (Ok y) e h rest = rest y (small_push before y h (small_is x y e))
+
 small_from : (before xs : List Data) → AreSmall before → AreSmall (case_from before xs).values
 small_from before [] h = h
-small_from before (x ∷ xs) h = by (small x) refl
-  where
-    by : (r : Result Data Cause) → small x ≡ r → AreSmall (after_value before r (λ y. case_from (before ++ y ∷ []) xs)).values
-    by (Err c) e = h
-    by (Ok y) e = small_from (before ++ y ∷ []) xs (small_push before y h (small_is x y e))
+small_from before (x ∷ xs) h = next_small x before xs (small x) refl h (λ y are. small_from (before ++ y ∷ []) xs are)
 
 pub case_small : (xs : List Data) → AreSmall (case_of xs).values
 case_small xs = small_from [] xs tt

@@ -13,7 +13,7 @@ held_line name all looked discards =
 
 -- that case failed, after so many discarded ones
 abbrev pub failed_line : List ℕ → ℕ → ℕ → List ℕ
-failed_line name k discards = line (name ++ codes ": failed at " ++ named (codes "case ") k ++ discards_text discards)
+failed_line name k discards = line (name ++ named (codes ": failed at case ") k ++ discards_text discards)
 
 -- the last line: how many properties there were, and how many passed and failed
 abbrev pub totals_line : ℕ → ℕ → ℕ → List ℕ

@@ -69,6 +69,7 @@ fn put_failure(
 ) -> Result<(), Memory>
     requires number { number < min (length (cases_of core.now property.now _settings.now.depth)) (2 ^ 40) }
     requires core { cases.now.core.now ≡ core.now }
+    requires kinds { cases.now.counts.now.kinds.now ≡ core.now.kinds }
     requires property { cases.now.property.now ≡ property.now }
     requires depth { cases.now.depth ≡ _settings.now.depth }
     requires fuel { cases.now.fuel ≡ _settings.now.fuel }

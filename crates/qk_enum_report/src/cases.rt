@@ -1,6 +1,6 @@
 //! The cases of a property, by their numbers.
 ghost use Rattle.std.specs.Prelude.{◌≡◌, ◌<◌, ◌^◌, [], length, min, get_or, IfOk};
-ghost use Rattle.qk_enum_report.specs.Verdicts.{case_verdict, cases_of};
+ghost use Rattle.qk_enum_report.specs.Verdicts.{case_verdict, cases_over};
 ghost use Rattle.qk_eval.specs.Answers.{AreSmall};
 ghost use Rattle.qk_series.specs.Cases.{case_in, case_of};
 
@@ -20,7 +20,6 @@ pub struct PropertyCases<'c> {
     depth: u32,
     fuel: u32,
     ghost counted: { depth < length counts.now.rows.items },
-    ghost of_core: { counts.now.kinds.now ≡ core.now.kinds },
 }
 
 impl<'c> PropertyCases<'c> {
@@ -33,9 +32,9 @@ impl<'c> PropertyCases<'c> {
         fuel: u32,
     ) -> PropertyCases<'c>
         requires counted { depth < length counts.now.rows.items }
-        requires of_core { counts.now.kinds.now ≡ core.now.kinds }
         ensures core { result.core.now ≡ core.now }
         ensures property { result.property.now ≡ property.now }
+        ensures counts { result.counts.now ≡ counts.now }
         ensures depth { result.depth ≡ depth }
         ensures fuel { result.fuel ≡ fuel }
     {
@@ -50,8 +49,9 @@ impl<'c> PropertyCases<'c> {
 
     /// The case of a number.
     pub fn case(&self, alloc: Global, number: u64) -> Result<Case, Memory>
-        requires { number < min (length (cases_of self.now.core.now self.now.property.now self.now.depth)) (2 ^ 40) }
-        ensures { IfOk result (λ case. case_in case ≡ case_of (get_or (cases_of self.now.core.now self.now.property.now self.now.depth) number [])) }
+        requires { number < min (length (cases_over self.now.counts.now.kinds.now self.now.property.now self.now.depth)) (2 ^ 40) }
+        ensures case { IfOk result (λ case. case_in case ≡ case_of (get_or (cases_over self.now.counts.now.kinds.now self.now.property.now self.now.depth) number [])) }
+        ensures small { IfOk result (λ case. AreSmall (case_in case).values) }
     {
         let property = self.property;
         let binders = property.binders.as_slice();
@@ -74,9 +74,9 @@ impl<'c> PropertyCases<'c> {
 }
 
 impl<'c> Cases for PropertyCases<'c> {
-    ghost use Rattle.qk_enum_report.specs.Verdicts.{verdicts_of};
+    ghost use Rattle.qk_enum_report.specs.Verdicts.{verdicts_over};
 
-    ghost verdicts = { λ cases. verdicts_of cases.core.now cases.property.now cases.depth cases.fuel };
+    ghost verdicts = { λ cases. verdicts_over cases.counts.now.kinds.now cases.core.now cases.property.now cases.depth cases.fuel };
 
     fn count(&self) -> u64 {
         let property = self.property;

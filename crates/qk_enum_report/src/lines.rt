@@ -43,8 +43,7 @@ pub(crate) fn put_failed_line(
     ensures { OnOk result (text.new.items ≡ text.old.items ++ failed_line name.now number discards) }
 {
     text.append(name)?;
-    put(text, ": failed at ")?;
-    put_named(alloc, text, "case ", number)?;
+    put_named(alloc, text, ": failed at case ", number)?;
     put_discards(alloc, text, discards)?;
     put(text, "\n")
 }

@@ -12,6 +12,7 @@ pub struct OutSink<'r, P: Print> {
 }
 
 impl<'r, P: Print> OutSink<'r, P> {
+    /// Standard output without a fault.
     pub fn make(rt: &'r P) -> OutSink<'r, P>
         ensures { result.faults ≡ 0 }
     {

@@ -15,7 +15,7 @@ pub struct FileLibrary<'r, R: Files> {
 }
 
 impl<'r, R: Files> FileLibrary<'r, R> {
-    /// A library with no open file.
+    /// A library with no open file and without a fault.
     pub fn make(rt: &'r R) -> FileLibrary<'r, R>
         ensures { result.faults ≡ 0 }
     {
