@@ -1,5 +1,5 @@
 -- The properties that are left: the first, and then the others.
-use Rattle.std.proofs.Common.{◌≡◌, ◌∙◌, ℕ, ◌+◌, ◌<◌, ◌≤◌, Bool, true, false, not, cond, List, [], ◌∷◌, ◌++◌, length, get_or, drop, Some, refl, sym, ap, add-one, append_assoc, append-nil, arith, count_by}
+use Rattle.std.proofs.Common.{◌≡◌, ◌∙◌, ℕ, ◌+◌, ◌≤◌, Bool, true, false, cond, List, ◌∷◌, ◌++◌, length, drop, Some, sym, ap, add-one, append_assoc, append-nil, arith, count_by}
 use Rattle.std.proofs.Math.Seq.{drop-cons}
 use Rattle.std.proofs.lemmas.List.Sums.{sum_by-cons}
 use Rattle.std.proofs.lemmas.Option.{get_or_from_slice_get, slice_get_within}
@@ -7,12 +7,16 @@ use Rattle.std.proofs.lemmas.List.{drop_all}
 use Rattle.std.specs.List.{slice_get}
 use Rattle.qk_core.specs.Program.{ProgramData}
 use Rattle.qk_core.specs.Properties.{PropertyData}
-use Rattle.qk_enum_report.specs.Blocks.{block_of, fails}
+use Rattle.qk_enum_report.specs.Blocks.{block_of}
 use Rattle.qk_enum_report.specs.Reach.{Reach}
 use Rattle.qk_enum_report.specs.Report.{blocks_of}
 
 next_is : (ps : List PropertyData) (i : ℕ) (p : PropertyData) → Some p ≡ slice_get ps i → drop i ps ≡ p ∷ drop (i + 1) ps
 next_is ps i p found = rw add-one (drop-cons ps i p (slice_get_within ps i p (sym found))) ∙ ap (λ q. q ∷ drop (i + 1) ps) (get_or_from_slice_get ps i p p (sym found))
+
+pub few_next : (b : Bool) (before after i : ℕ) → after ≡ before + cond b 1 0 → before ≤ i → after ≤ i + 1
+few_next true before after i more few = omega (arith, more, few)
+few_next false before after i more few = omega (arith, more, few)
 
 module _ (r : Reach) (c : ProgramData) (ps : List PropertyData) (i : ℕ) (p : PropertyData) (found : Some p ≡ slice_get ps i) where
   pub blocks_next : (now next whole : List ℕ) → next ≡ now ++ block_of r c p → now ++ blocks_of r c (drop i ps) ≡ whole → next ++ blocks_of r c (drop (i + 1) ps) ≡ whole

@@ -3,7 +3,6 @@ use Rattle.std.specs.Prelude.{ℕ, Bool, List, [], ◌++◌, Option, Some, None,
 use Rattle.std.specs.Option.{is_some}
 use Rattle.qk_base.specs.Judged.{cause_of}
 use Rattle.qk_base.specs.declared.outcome.Cause.TheVariants.{False}
-use Rattle.qk_base.specs.declared.outcome.Verdict.{Verdict}
 use Rattle.qk_core.specs.Program.{ProgramData}
 use Rattle.qk_core.specs.Properties.{PropertyData}
 use Rattle.qk_exhaust.specs.Run.{walked}
@@ -30,12 +29,10 @@ abbrev pub failure_lines : Reach → ProgramData → PropertyData → CaseData �
 failure_lines r c p case =
     cause_line (unwrap_or (cause_of (case_verdict c p r.fuel case)) False) (is_some case.crash) ++ value_lines c.kinds p.binders case.values
 
-abbrev pub block_from : Reach → ProgramData → PropertyData → Walked → List ℕ
-block_from r c p w =
-    elim w.failed [
-      | None ↦ held_line p.name (nat_le (length (cases_of c p r.depth)) r.cases) (min r.cases (length (cases_of c p r.depth))) w.discards
-      | Some k ↦ failed_line p.name k w.discards ++ failure_lines r c p (case_at r c p k)
-    ]
+-- what is told of a walk: how many cases were discarded, and which case failed, if one did
+abbrev pub block_from : Reach → ProgramData → PropertyData → ℕ → Option ℕ → List ℕ
+block_from r c p discards None = held_line p.name (nat_le (length (cases_of c p r.depth)) r.cases) (min r.cases (length (cases_of c p r.depth))) discards
+block_from r c p discards (Some k) = failed_line p.name k discards ++ failure_lines r c p (case_at r c p k)
 
 abbrev pub block_of : Reach → ProgramData → PropertyData → List ℕ
-block_of r c p = block_from r c p (walk_of r c p)
+block_of r c p = block_from r c p (walk_of r c p).discards (walk_of r c p).failed

@@ -51,7 +51,15 @@ pub(crate) fn put_block<R: Threads + Sync, G: Gate>(
         }
         Some(number) => {
             put_failed_line(alloc, text, name, number, discards)?;
-            put_failure(alloc, text, core, property, settings, &property_cases, number)?;
+            put_failure(
+                alloc,
+                text,
+                core,
+                property,
+                settings,
+                &property_cases,
+                number,
+            )?;
             Ok(true)
         }
     }

@@ -6,6 +6,7 @@ mod cases;
 mod lines;
 mod reporting;
 mod settings;
+mod totals;
 
 pub use cases::PropertyCases;
 pub use reporting::{CaseReport, report_cases};

@@ -8,6 +8,7 @@ ghost use Rattle.qk_enum_report.specs.Report.{blocks_of, failures, passes, repor
 use crate::blocks::put_block;
 use crate::lines::put_totals_line;
 use crate::settings::CaseSettings;
+use crate::totals::CaseTotals;
 use qk_base::{Bytes, Gate, Memory, Status};
 use qk_core::Core;
 use qk_series::Counts;
@@ -19,13 +20,6 @@ use std::thread::Threads;
 pub struct CaseReport {
     pub status: Status,
     pub text: Bytes,
-}
-
-/// How many properties passed and failed.
-#[derive(Clone, Copy, Debug, PartialEq, Eq)]
-pub(crate) struct CaseTotals {
-    pub passed: u64,
-    pub failed: u64,
 }
 
 /// Judges the cases of each property in the order of the file, and reports of them.
@@ -78,15 +72,14 @@ fn put_blocks<R: Threads + Sync, G: Gate>(
     ensures passed { IfOk result (λ totals. totals.passed ≡ passes (reach_of settings.now) core.now core.now.properties) }
     ensures failed { IfOk result (λ totals. totals.failed ≡ failures (reach_of settings.now) core.now core.now.properties) }
 {
-    let mut passed = 0u64;
-    let mut failed = 0u64;
+    let mut totals = CaseTotals {
+        passed: 0,
+        failed: 0,
+    };
     for number in 0..core.properties() {
         let property = core.property(number);
-        if put_block(rt, alloc, gate, text, core, counts, property, settings)? {
-            failed += 1;
-        } else {
-            passed += 1;
-        }
+        let fails = put_block(rt, alloc, gate, text, core, counts, property, settings)?;
+        totals = totals.with(fails);
     }
-    Ok(CaseTotals { passed, failed })
+    Ok(totals)
 }

@@ -11,8 +11,8 @@ invariant-loop-number g l =
     let r = reach_of l.settings in
     record {
       text : l.text.items ++ blocks_of r l.core left ≡ l.fn.text.items ++ blocks_of r l.core l.core.properties;
-      passed : l.passed + count_by (λ p. not (fails r l.core p)) left ≡ passes r l.core l.core.properties;
-      failed : l.failed + count_by (fails r l.core) left ≡ failures r l.core l.core.properties;
-      few_passed : l.passed ≤ l.number;
-      few_failed : l.failed ≤ l.number;
+      passed : l.totals.passed + count_by (λ p. not (fails r l.core p)) left ≡ passes r l.core l.core.properties;
+      failed : l.totals.failed + count_by (fails r l.core) left ≡ failures r l.core l.core.properties;
+      few_passed : l.totals.passed ≤ l.number;
+      few_failed : l.totals.failed ≤ l.number;
     }
