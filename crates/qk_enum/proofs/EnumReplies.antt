@@ -1,5 +1,5 @@
 -- Words and bytes have one reply, and a reply tells what it should.
-use Rattle.std.proofs.Common.{◌≡◌, ◌⊎◌, ◌∙◌, ℕ, ◌<◌, Bool, true, false, nat_eq, if◌then◌else◌, List, length, take, refl, sym, subst, inl, inr}
+use Rattle.std.proofs.Common.{◌≡◌, ◌∙◌, ℕ, ◌<◌, Bool, true, false, nat_eq, if◌then◌else◌, List, length, take, refl, sym, subst, inl, inr}
 use Rattle.qk_base.specs.declared.status.Status.{Status}
 use Rattle.qk_base.specs.declared.status.Status.TheVariants as status
 use Rattle.qk_core.specs.Program.{ProgramData}
@@ -11,7 +11,7 @@ use Rattle.qk_enum_words.specs.SettingsData.{SettingsData}
 use Rattle.qk_enum_words.specs.Walk.{is_good, nothing}
 use Rattle.qk_enum_words.proofs.OneAnswer.{one_settings, some_settings}
 use Rattle.qk_enum_words.proofs.WalkLaws.{accepted_is_good, good_is_accepted}
-use Rattle.qk_file.specs.Files.{FileReply, IsProgram, IsReply, IsRun}
+use Rattle.qk_file.specs.Files.{IsProgram, IsReply, IsRun}
 use Rattle.qk_file.proofs.FileLaws.{IsOne, Some_of, front_says, one_file, program_is_answered, run_is_of_program, run_is_reply, some_of_file}
 
 run_or_not : (b : Bool) → IsRun (if b then status.AllPassed else status.SomeFailed)

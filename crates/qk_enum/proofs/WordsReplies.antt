@@ -1,5 +1,5 @@
 -- What words name is what their settings name.
-use Rattle.std.proofs.Common.{◌≡◌, ◌⊎◌, ◌∙◌, ℕ, List, Option, Some, refl, sym, ap, inl, inr}
+use Rattle.std.proofs.Common.{◌≡◌, ◌∙◌, ℕ, List, Option, Some, refl, sym, ap}
 use Rattle.qk_enum.specs.Reply.{Names, Tells}
 use Rattle.qk_enum_words.specs.Given.{AreSettings}
 use Rattle.qk_enum_words.specs.SettingsData.{SettingsData}

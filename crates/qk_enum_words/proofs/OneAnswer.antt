@@ -41,9 +41,10 @@ one_settings words s t h k = one_gives h.0 k.0 s t (give_same words h.0 k.0 h.1.
 
 settings_of : (words : List Text) (ps : List Part) (o : Option Text) → IsSpelling words ps → given (codes "file") ps ≡ o → is_some o ≡ true → (s : SettingsData) × AreSettings words s
 settings_of words ps None h e k = absurd (true≢false (sym k))
-settings_of words ps (Some f) h e k =
-    (record { depth = number_given Depth 3 ps; cases = number_given Cases 100000 ps; fuel = number_given Fuel 100000 ps; workers = number_given Workers 4 ps; file = f },
-    (ps, (h, record { depth = refl; cases = refl; fuel = refl; workers = refl; file = e })))
+settings_of words ps (Some f) h e k = (
+  record { depth = number_given Depth 3 ps; cases = number_given Cases 100000 ps; fuel = number_given Fuel 100000 ps; workers = number_given Workers 4 ps; file = f },
+  (ps, (h, record { depth = refl; cases = refl; fuel = refl; workers = refl; file = e })),
+)
 
 pub some_settings : (words : List Text) → IsAccepted words → (s : SettingsData) × AreSettings words s
 some_settings words h = settings_of words h.0 (given (codes "file") h.0) h.1 refl h.1.file

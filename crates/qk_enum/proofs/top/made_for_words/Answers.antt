@@ -1,4 +1,4 @@
-use Rattle.std.proofs.Common.{rules, map, string_bytes, inr, ap, refl, sym, subst, Err}
+use Rattle.std.proofs.Common.{map, string_bytes, inr}
 use Rattle.qk_enum.proofs.WordsReplies.{held_own, names_own, tells_own}
 use Rattle.qk_enum_words.specs.SettingsData.{settings_in}
 use Rattle.qk_enum.proofs.top.made_for_words.Goals as goal
