@@ -1,7 +1,6 @@
 -- Words and bytes have one reply, where no shrink is greedy.
 use Rattle.std.proofs.Common.{◌≡◌, ◌∙◌, ℕ, ◌+◌, List, [], ◌∷◌, ◌++◌, Option, Some, None, Bool, false, slice_get, refl, sym, ap, subst, inl, inr}
 use Rattle.std.specs.Prelude.{unwrap_or}
-use Rattle.qk_base.specs.declared.status.Status.{Status}
 use Rattle.qk_base.specs.declared.outcome.Cause.TheVariants.{False}
 use Rattle.qk_command.specs.Drawing.{DrawnValues}
 use Rattle.qk_core.specs.Program.{ProgramData}

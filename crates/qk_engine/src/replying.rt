@@ -2,7 +2,7 @@
 ghost use Rattle.std.specs.Prelude.{◌≡◌, ◌+◌, ◌++◌, IfOk, OnOk, length, nat_eq, if◌then◌else◌};
 ghost use Rattle.qk_base.specs.declared.status.Status.TheVariants as status;
 ghost use Rattle.qk_engine.specs.Program.{status_of as status_of_program, totals_line};
-ghost use Rattle.qk_file.specs.Files.{FileReply, refusal as refusal_of};
+ghost use Rattle.qk_file.specs.Files.{FileReply};
 ghost use Rattle.qk_engine.specs.Reply.{GeneratedReply, ReportReply, program_reply, usage};
 ghost use Rattle.qk_engine.specs.Settings.{settings_told};
 ghost use Rattle.qk_engine.specs.Totals.{AreTotals};

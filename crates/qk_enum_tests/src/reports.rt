@@ -133,7 +133,7 @@ const ROWS: [(&str, &str, u8, &str); 17] = [
         "f",
         "(prop a (forall ((x 5)) (check true)))",
         3,
-        "refused 20 at 1:20\n",
+        "refused 20 at 1:21\n",
     ),
 ];
 
