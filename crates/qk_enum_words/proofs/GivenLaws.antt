@@ -1,10 +1,10 @@
 -- The values that parts give.
-use Rattle.std.proofs.Common.{◌≡◌, ◌∙◌, ℕ, Bool, true, false, List, [], ◌∷◌, Some, None, Result, Ok, Err, option_map, cond, codes, refl, sym, ap, subst, true≢false}
+use Rattle.std.proofs.Common.{◌≡◌, ◌∙◌, Bool, true, false, List, [], ◌∷◌, Some, None, option_map, cond, codes, refl, ap, subst}
 use Rattle.std.specs.Cmp.Lexicographic.{bytes_decides}
 use Rattle.std.specs.List.{find, list_all}
 use Rattle.std.specs.Str.{bytes_eq}
 use Rattle.qk_enum_words.specs.declared.options.OptionName.{OptionName}
-use Rattle.qk_enum_words.specs.Options.{Text, option_text, IsTaken}
+use Rattle.qk_enum_words.specs.Options.{Text, option_text}
 use Rattle.qk_enum_words.specs.Parts.{Part, split, joined, file, key_of, value_of, given, is_part, fits}
 use Rattle.qk_enum_words.specs.Walk.{option_of}
 use Rattle.qk_enum_words.proofs.KeyLaws.{option_one, split_read}

@@ -8,7 +8,7 @@ use Rattle.qk_enum_words.specs.declared.options.OptionName.TheVariants.{Depth, C
 use Rattle.qk_enum_words.specs.Accepted.{IsAccepted, IsSpelling}
 use Rattle.qk_enum_words.specs.Given.{number_given, Gives, AreSettings}
 use Rattle.qk_enum_words.specs.Options.{Text, option_text}
-use Rattle.qk_enum_words.specs.Parts.{Part, given, is_given}
+use Rattle.qk_enum_words.specs.Parts.{Part, given}
 use Rattle.qk_enum_words.specs.SettingsData.{SettingsData}
 use Rattle.qk_enum_words.proofs.Matched.{matched}
 

@@ -1,6 +1,6 @@
 -- The values that fit their options.
-use Rattle.std.proofs.Common.{◌≡◌, ℕ, ◌^◌, lit<, ◌<◌, ◌≤◌, true, List, refl, arith}
-use Rattle.qk_words.specs.Parts.{is_number, is_number_within, number}
+use Rattle.std.proofs.Common.{◌≡◌, ℕ, ◌^◌, lit<, ◌<◌, true, List, arith}
+use Rattle.qk_words.specs.Parts.{is_number, number}
 use Rattle.qk_words.proofs.ValueLaws.{within_parts}
 use Rattle.qk_enum_words.specs.declared.options.OptionName.{OptionName}
 use Rattle.qk_enum_words.specs.declared.options.OptionName.TheVariants.{Depth, Cases, Fuel, Workers}

@@ -1,5 +1,5 @@
 -- What the matches of the command hold.
-use Rattle.std.specs.Prelude.{◌≡◌, ◌<◌, ◌^◌, ℕ, true, List, codes}
+use Rattle.std.specs.Prelude.{◌≡◌, true, List, codes}
 use Rattle.std.specs.List.{list_all}
 use Rattle.clap.specs.Words.{Row, first_of}
 use Rattle.qk_enum_words.specs.declared.options.OptionName.{OptionName}
