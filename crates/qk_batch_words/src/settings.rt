@@ -1,7 +1,7 @@
 //! What the words of a batch give.
+ghost use Rattle.std.specs.Prelude.{◌≡◌};
 
 use qk_base::Memory;
-use std::alloc::AllocError;
 
 /// The parts of a batch's words, and the one setting that is for all files.
 #[derive(Clone, Copy, Drop)]
