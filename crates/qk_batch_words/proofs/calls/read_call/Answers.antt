@@ -5,4 +5,4 @@ use Rattle.qk_batch_words.proofs.calls.read_call.Goals as goal
 
 pub returns-in-Err-BadToken-clause-none : goal.returns-in-Err-BadToken-clause-none
 returns-in-Err-BadToken-clause-none c e gives =
-    no_bad_token (map string_bytes c.args.words.now) gives.0 gives.1.0 (c.in-Err-BadToken.ensures.bad_token (ap Err c.in-Err-BadToken.field-0-is))
+    no_bad_token (map string_bytes c.args.words.now) gives.0 gives.1 (c.in-Err-BadToken.ensures.bad_token (ap Err c.in-Err-BadToken.field-0-is))

@@ -1,0 +1,109 @@
+//! The run of one file by a worker.
+ghost use Rattle.std.specs.Prelude.{◌≡◌, ℕ, List, [], ◌∷◌, ◌++◌, All, IfOk, take, map, string_bytes};
+ghost use Rattle.qk_engine.specs.Reply.{Replies, ReplyOf};
+ghost use Rattle.qk_batch_words.specs.Accepted.{IsCallFor};
+ghost use Rattle.qk_words.specs.SettingsData.{AreInRange, settings_in, whole};
+
+use crate::block::Block;
+use qk_base::{Bytes, CalmLibrary, Gate, Memory, Status};
+use qk_batch_words::{call_words, read_call};
+use qk_engine::run_with_calm;
+use qk_pool::Task;
+use qk_words::{Aim, Settings};
+use std::alloc::Global;
+use std::marker::Sync;
+use std::thread::Threads;
+
+/// What the workers share: the words, and what a run needs.
+pub struct Runs<'a, R, G> {
+    pub rt: &'a R,
+    pub alloc: Global,
+    pub gate: &'a G,
+    pub options: &'a [String],
+    pub names: &'a [String],
+}
+
+impl<R: Threads + Sync, G: Gate> Task for Runs<'_, R, G> {
+    ghost use Rattle.std.specs.Prelude.{All, map, string_bytes};
+    ghost use Rattle.qk_batch.specs.Feeding.{IsBlockAt};
+    ghost use Rattle.qk_batch_words.specs.Accepted.{IsCallFor};
+
+    type Answer = Block;
+
+    ghost ready = { λ runs. All (IsCallFor (map string_bytes runs.options.now)) (map string_bytes runs.names.now) };
+
+    ghost answers = { λ runs number input block. IsBlockAt (map string_bytes runs.options.now) (map string_bytes runs.names.now) number input block };
+
+    fn perform(&self, number: u32, input: &Bytes) -> Result<Block, Memory> {
+        match self.names.get(number as usize) {
+            None => Ok(Block {
+                status: Status::AllPassed,
+                text: Bytes::make(self.alloc),
+            }),
+            Some(name) => run_file(
+                self.rt,
+                self.alloc,
+                self.gate,
+                self.options,
+                name.as_str(),
+                input.as_slice(),
+            ),
+        }
+    }
+}
+
+// The run of a file of these bytes, or of a longer one that begins with them where they are the most that is loaded.
+fn run_file<R: Threads + Sync, G: Gate>(
+    rt: &R,
+    alloc: Global,
+    gate: &G,
+    options: &[String],
+    name: &str,
+    bytes: &[u8],
+) -> Result<Block, Memory>
+    requires { IsCallFor (map string_bytes options.now) name.now }
+    ensures { IfOk result (λ block. (whole : List ℕ) → bytes.now ≡ take 1048577 whole → Replies (map string_bytes options.now ++ name.now ∷ []) whole block.status block.text.items) }
+{
+    let words = call_words(alloc, options, name)?;
+    match read_call(alloc, words.as_slice(), name)? {
+        None => unreachable!(),
+        Some(settings) => run_alone(rt, alloc, gate, &settings, name, bytes),
+    }
+}
+
+// The run by one worker. The other settings are as they were.
+fn run_alone<R: Threads + Sync, G: Gate>(
+    rt: &R,
+    alloc: Global,
+    gate: &G,
+    settings: &Settings<'_>,
+    name: &str,
+    bytes: &[u8],
+) -> Result<Block, Memory>
+    requires range { AreInRange (settings_in settings.now) }
+    requires aim { (settings_in settings.now).aim ≡ whole name.now }
+    ensures { IfOk result (λ block. (all : List ℕ) → bytes.now ≡ take 1048577 all → ReplyOf (settings_in settings.now) all block.status block.text.items) }
+{
+    let alone = Settings {
+        seed: settings.seed,
+        success: settings.success,
+        ratio: settings.ratio,
+        max_size: settings.max_size,
+        fuel: settings.fuel,
+        workers: 1,
+        window: settings.window,
+        shrinks: settings.shrinks,
+        greedy: settings.greedy,
+        work: settings.work,
+        aim: Aim::File(name),
+    };
+    let mut library = CalmLibrary::make(alloc, 1_048_577);
+    library.add(alloc, name, bytes)?;
+    match run_with_calm(rt, alloc, &alone, &mut library, gate) {
+        Ok(made) => Ok(Block {
+            status: made.status,
+            text: made.text,
+        }),
+        Err(_) => Err(Memory),
+    }
+}
