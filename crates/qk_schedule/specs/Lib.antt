@@ -1,5 +1,8 @@
+pub mod Checked
+pub mod Checkpoints
 pub mod Counts
 pub mod Course
+pub mod LimitsData
 pub mod Quick
 pub mod QuickLaws
 pub mod Schedule
