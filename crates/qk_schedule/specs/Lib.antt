@@ -1,4 +1,5 @@
 pub mod Checked
+pub mod CheckpointLaws
 pub mod Checkpoints
 pub mod Counts
 pub mod Course
