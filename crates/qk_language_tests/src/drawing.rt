@@ -111,30 +111,24 @@ const ROWS: &str =
 0 9 0 | false left 0 | (bind xs (vector 2 (pure 1)) (pure (< xs (cons 1 (nil Int)))))
 0 9 0 | true left 0 | (bind xs (vector 2 (vector 1 (pure 1))) (pure (= xs (cons (cons 1 (nil Int)) (cons (cons 1 (nil Int)) (nil (List Int)))))))";
 
-fn draws(alloc: Global, row: &str) -> Result<(), Fail> {
-    let (given, wanted, source) = three(row, " | ")?;
-    let (words, size, fuel) = three(given, " ")?;
-    let core = drawing(alloc, DECLARED, source)?;
+fn draw_rows(alloc: Global, rows: &str) -> Result<(), Fail> {
+    let core = drawing(alloc, DECLARED, ("", ""), rows)?;
     let env = values(alloc, &core)?;
-    let g = Gen::start(number(words));
-    let answer = draw(
-        alloc,
-        &core,
-        generator(&core)?,
-        &env,
-        g,
-        small(size),
-        small(fuel),
-    )?;
-    same(row, told(alloc, &core, &answer)?.as_str(), wanted)
+    for (n, row) in rows.lines().enumerate() {
+        let (given, wanted, _) = three(row, " | ")?;
+        let (words, size, fuel) = three(given, " ")?;
+        let made = generator(&core, n)?;
+        let g = Gen::start(number(words));
+        let answer = draw(alloc, &core, made, &env, g, small(size), small(fuel))?;
+        same(row, told(alloc, &core, &answer)?.as_str(), wanted)?;
+    }
+    Ok(())
 }
 
 #[test]
 fn worked_drawings(rt: HostRuntime) -> Result<(), Fail> {
     for rows in [FORMS, CALLS, LARGE, ROWS] {
-        for row in rows.lines() {
-            draws(rt.alloc(), row)?;
-        }
+        draw_rows(rt.alloc(), rows)?;
     }
     Ok(())
 }

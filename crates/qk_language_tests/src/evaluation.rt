@@ -175,21 +175,21 @@ const LARGE: &str = "15 | Fuel | (grow (cons 0 (nil Int)))
 217 | Weight | (Both (chain 199) (full 16 (nil Int)))
 217 | Weight | (cons (chain 199) (ends 16 (nil Chain)))";
 
-fn evaluates(alloc: Global, row: &str) -> Result<(), Fail> {
-    let (fuel, wanted, expr) = three(row, " | ")?;
-    let source = format!(in alloc; "(pure {expr})")?;
-    let core = drawing(alloc, DECLARED, source.as_str())?;
+fn evaluate_rows(alloc: Global, rows: &str) -> Result<(), Fail> {
+    let core = drawing(alloc, DECLARED, ("(pure ", ")"), rows)?;
     let env = values(alloc, &core)?;
-    let answer = eval(alloc, &core, expression(&core)?, &env, small(fuel))?;
-    same(row, told(alloc, &core, &answer)?.as_str(), wanted)
+    for (n, row) in rows.lines().enumerate() {
+        let (fuel, wanted, _) = three(row, " | ")?;
+        let answer = eval(alloc, &core, expression(&core, n)?, &env, small(fuel))?;
+        same(row, told(alloc, &core, &answer)?.as_str(), wanted)?;
+    }
+    Ok(())
 }
 
 #[test]
 fn worked_evaluations(rt: HostRuntime) -> Result<(), Fail> {
     for rows in [NUMBERS, CHOICES, PARTS, CALLS, LARGE] {
-        for row in rows.lines() {
-            evaluates(rt.alloc(), row)?;
-        }
+        evaluate_rows(rt.alloc(), rows)?;
     }
     Ok(())
 }

@@ -23,13 +23,25 @@ pub fn program(alloc: Global, declared: &str, stated: &str) -> Result<Core, Fail
     }
 }
 
-/// A program with two properties: of the numbers 7, -2 and 20 alone, and of them and what this generator draws.
-pub fn drawing(alloc: Global, declared: &str, generator: &str) -> Result<Core, Fail> {
+/// A program with a property of the numbers 7, -2 and 20, and for each row one of them and of what a generator draws: the row's third
+/// part, with these texts around it.
+pub fn drawing(
+    alloc: Global,
+    declared: &str,
+    around: (&str, &str),
+    rows: &str,
+) -> Result<Core, Fail> {
+    let (open, close) = around;
     let first = "(a (pure 7)) (b (pure -2)) (c (pure 20))";
-    let check = "(check true)";
-    let stated = format!(in alloc;
-        "(prop e (forall ({first}) {check}))(prop p (forall ({first} (x {generator})) {check}))"
-    )?;
+    let mut stated = format!(in alloc; "(prop e (forall ({first}) (check true)))")?;
+    for (n, row) in rows.lines().enumerate() {
+        let (_, _, source) = three(row, " | ")?;
+        let generator = format!(in alloc; "{open}{source}{close}")?;
+        let binders = format!(in alloc; "{first} (x {generator})")?;
+        stated.push_str(format!(in alloc;
+            "(prop p{n} (forall ({binders}) (check true)))"
+        )?.as_str())?;
+    }
     program(alloc, declared, stated.as_str())
 }
 
@@ -55,9 +67,10 @@ pub fn values(alloc: Global, core: &Core) -> Result<Seq<Value>, Fail>
     Ok(drawn.values)
 }
 
-/// The generator behind the three numbers of the second property.
-pub fn generator(core: &Core) -> Result<&GenExpr, Fail> {
-    match property(core, 1)?.binders.as_slice() {
+/// The generator of a row, counted from 0.
+pub fn generator(core: &Core, row: usize) -> Result<&GenExpr, Fail> {
+    let number = (row as u32).saturating_add(1);
+    match property(core, number)?.binders.as_slice() {
         [_, _, _, binder] => match &binder.draw {
             Draw::Plain(generator) => Ok(generator),
             Draw::Commands(_) => Err("commands")?,
@@ -67,8 +80,8 @@ pub fn generator(core: &Core) -> Result<&GenExpr, Fail> {
 }
 
 /// The expression of that generator.
-pub fn expression(core: &Core) -> Result<&Expr, Fail> {
-    match generator(core)? {
+pub fn expression(core: &Core, row: usize) -> Result<&Expr, Fail> {
+    match generator(core, row)? {
         GenExpr::Pure(expr) => Ok(expr),
         _ => Err("no expression")?,
     }
