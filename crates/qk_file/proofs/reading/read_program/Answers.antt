@@ -1,5 +1,5 @@
 use Rattle.std.proofs.Common.{◌≤◌, ℕ, subst}
-use Rattle.qk_types.proofs.Sequencing.{count_views}
+use Rattle.qk_names.proofs.Sequencing.{count_views}
 use Rattle.qk_file.proofs.reading.read_program.Goals as goal
 
 pub checked-requires : goal.checked-requires
