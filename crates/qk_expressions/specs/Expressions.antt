@@ -2,10 +2,10 @@
 use Rattle.std.specs.Prelude.{◌∷◌, ◌++◌, [], List, length, not, codes, nat_eq, true, false, Option, Some, None, Ok}
 use Rattle.qk_base.specs.declared.place.Place.{Place}
 use Rattle.qk_syntax.specs.PlainTrees.{PlainTree, number, name, list, PlainTrees, end, more, count}
-use Rattle.qk_value.specs.Types.{int_type, bool_type, list_type}
+use Rattle.qk_value.specs.Types.{TypeData, int_type, bool_type, list_type}
 use Rattle.qk_names.specs.Checks.{Checked, ◌>>=◌, ◌>>◌, refuse, check, place_of}
 use Rattle.qk_core.specs.ExprData.{ExprData, cases_of}
-use Rattle.qk_typing.specs.Operators.{Tables, Typed, typed, Form, empty_list, binding, matching, operator, usable, form_of, arity, applied}
+use Rattle.qk_typing.specs.Operators.{Tables, Typed, typed, Form, empty_list, binding, matching, operator, usable, form_of, arity, applied, has_type}
 use Rattle.qk_expressions.specs.Patterns.{Shape, shapes_of, has_patterns, shape_at, pattern_variables, Cases, no_cases, is_among, agrees, with_case, are_complete, result_of}
 use Rattle.qk_names.specs.Reserved.{Word, entry_of}
 use Rattle.qk_headers.specs.Scopes.{Scope, Found, variable_of, bind, bind_all, variable_at}

@@ -1,6 +1,7 @@
 -- The heads of expressions, and the types of those whose parts are all expressions.
-use Rattle.std.specs.Prelude.{ℕ, List, [], ◌∷◌, map, length, codes, Option, Some, None, option_map, option_and_then, unwrap_or, slice_get, Ok}
+use Rattle.std.specs.Prelude.{ℕ, List, [], ◌∷◌, map, length, codes, Option, Some, None, option_map, option_and_then, unwrap_or, slice_get, nat_eq, Ok}
 use Rattle.qk_base.specs.declared.place.Place.{Place}
+use Rattle.qk_syntax.specs.PlainTrees.{PlainTrees, count}
 use Rattle.qk_value.specs.Kinds.{maker_of}
 use Rattle.qk_value.specs.Types.{TypeData, int_type, bool_type, list_type, pair_type, made_type, same_type}
 use Rattle.qk_names.specs.Checks.{Checked, ◌>>=◌, ◌>>◌, refuse, check}
