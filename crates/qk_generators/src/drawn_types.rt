@@ -5,7 +5,7 @@ ghost use Rattle.qk_generators.specs.Drawing.{draws_type as draws_type_of, draw_
 ghost use Rattle.qk_generators.specs.DrawingView.{drawn_in};
 ghost use Rattle.qk_value.specs.View.{view_type};
 
-use qk_base::Fault;
+use qk_base::{Fault, Place};
 use qk_core::GenExpr;
 use qk_names::{WRONG_TYPE, refusal};
 use qk_typing::is_same;
