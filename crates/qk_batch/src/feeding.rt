@@ -9,6 +9,7 @@ use std::alloc::Global;
 const MOST: usize = 1_048_577;
 
 /// The bytes of the file of each number, which the thread of the caller loads.
+#[derive(Drop)]
 pub struct Files<'a, L: Library> {
     pub alloc: Global,
     pub library: &'a mut L,

@@ -5,7 +5,7 @@ ghost use Rattle.qk_batch_words.specs.Accepted.{IsCallFor};
 ghost use Rattle.qk_words.specs.SettingsData.{AreInRange, settings_in, whole};
 
 use crate::block::Block;
-use qk_base::{Bytes, CalmLibrary, Gate, Memory, Status};
+use qk_base::{Bytes, CalmLibrary, Gate, Memory, OpenGate, Status};
 use qk_batch_words::{call_words, read_call};
 use qk_engine::run_with_calm;
 use qk_pool::Task;
@@ -14,7 +14,8 @@ use std::alloc::Global;
 use std::marker::Sync;
 use std::thread::Threads;
 
-/// What the workers share: the words, and what a run needs.
+/// What the workers share: the words, and what a run needs. A worker enters the gate once for each file.
+#[derive(Drop)]
 pub struct Runs<'a, R, G> {
     pub rt: &'a R,
     pub alloc: Global,
@@ -35,6 +36,7 @@ impl<R: Threads + Sync, G: Gate> Task for Runs<'_, R, G> {
     ghost answers = { λ runs number input block. IsBlockAt (map string_bytes runs.options.now) (map string_bytes runs.names.now) number input block };
 
     fn perform(&self, number: u32, input: &Bytes) -> Result<Block, Memory> {
+        self.gate.enter(number);
         match self.names.get(number as usize) {
             None => Ok(Block {
                 status: Status::AllPassed,
@@ -43,7 +45,6 @@ impl<R: Threads + Sync, G: Gate> Task for Runs<'_, R, G> {
             Some(name) => run_file(
                 self.rt,
                 self.alloc,
-                self.gate,
                 self.options,
                 name.as_str(),
                 input.as_slice(),
@@ -53,10 +54,9 @@ impl<R: Threads + Sync, G: Gate> Task for Runs<'_, R, G> {
 }
 
 // The run of a file of these bytes, or of a longer one that begins with them where they are the most that is loaded.
-fn run_file<R: Threads + Sync, G: Gate>(
+fn run_file<R: Threads + Sync>(
     rt: &R,
     alloc: Global,
-    gate: &G,
     options: &[String],
     name: &str,
     bytes: &[u8],
@@ -67,15 +67,14 @@ fn run_file<R: Threads + Sync, G: Gate>(
     let words = call_words(alloc, options, name)?;
     match read_call(alloc, words.as_slice(), name)? {
         None => unreachable!(),
-        Some(settings) => run_alone(rt, alloc, gate, &settings, name, bytes),
+        Some(settings) => run_alone(rt, alloc, &settings, name, bytes),
     }
 }
 
 // The run by one worker. The other settings are as they were.
-fn run_alone<R: Threads + Sync, G: Gate>(
+fn run_alone<R: Threads + Sync>(
     rt: &R,
     alloc: Global,
-    gate: &G,
     settings: &Settings<'_>,
     name: &str,
     bytes: &[u8],
@@ -99,7 +98,7 @@ fn run_alone<R: Threads + Sync, G: Gate>(
     };
     let mut library = CalmLibrary::make(alloc, 1_048_577);
     library.add(alloc, name, bytes)?;
-    match run_with_calm(rt, alloc, &alone, &mut library, gate) {
+    match run_with_calm(rt, alloc, &alone, &mut library, &OpenGate) {
         Ok(made) => Ok(Block {
             status: made.status,
             text: made.text,

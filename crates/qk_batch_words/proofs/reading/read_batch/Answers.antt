@@ -17,7 +17,7 @@ returns-in-Some-clause-accepted c =
     let each = subst (λ (o : Option ℕ). OnSome o (P (map string_bytes c.divide.result.0.now) (map string_bytes c.divide.result.1.now))) c.in-Some.is c.in_ok-read_names.ensures.each in
     let count = sym (length-map c.divide.result.1.now string_bytes) ∙ ap length c.divide.ensures.names in
     record {
-      some = ?;
+      some = (let none = c.if-is_empty.ensures in grind (arith, count, none));
       few = (let most = c.if-names-gt256.false in omega (arith, count, most));
       each = subst (P (options_of words)) c.divide.ensures.names (subst (λ (os : List Text). P os (map string_bytes c.divide.result.1.now)) c.divide.ensures.options each);
     }
