@@ -1,5 +1,6 @@
 //! The files of a batch, one after another.
-ghost use Rattle.std.specs.Prelude.{◌≡◌};
+ghost use Rattle.std.specs.Prelude.{◌≡◌, map, string_bytes};
+ghost use Rattle.qk_batch.specs.Feeding.{name_at};
 
 use qk_base::{Bytes, Library, LoadFault, load};
 use qk_pool::Feed;
@@ -27,10 +28,18 @@ impl<L: Library> Feed for Files<'_, L> {
     ghost made = { λ files. (files.library.ghost_name ∷ []) ∷ map string_bytes files.names.now };
 
     fn next(&mut self, number: u32) -> Result<Bytes, LoadFault> {
-        let name = match self.names.get(number as usize) {
-            None => "",
-            Some(name) => name.as_str(),
-        };
-        load(self.alloc, self.library, name, MOST)
+        load(self.alloc, self.library, name_of(self.names, number), MOST)
+    }
+}
+
+/// The name of the file of that number, and an empty one behind the last.
+pub fn name_of(names: &[String], number: u32) -> &str
+    ensures { result.now ≡ name_at (map string_bytes names.now) number }
+{
+    let index = number as usize;
+    if index < names.len() {
+        names[index].as_str()
+    } else {
+        ""
     }
 }

@@ -1,10 +1,11 @@
 //! The run of one file by a worker.
-ghost use Rattle.std.specs.Prelude.{◌≡◌, ℕ, List, [], ◌∷◌, ◌++◌, All, IfOk, take, map, string_bytes};
+ghost use Rattle.std.specs.Prelude.{◌≡◌, ℕ, List, [], ◌∷◌, ◌++◌, IfOk, take, map, string_bytes};
 ghost use Rattle.qk_engine.specs.Reply.{Replies, ReplyOf};
 ghost use Rattle.qk_batch_words.specs.Accepted.{IsCallFor};
 ghost use Rattle.qk_words.specs.SettingsData.{AreInRange, settings_in, whole};
 
 use crate::block::Block;
+use crate::feeding::name_of;
 use qk_base::{Bytes, CalmLibrary, Gate, Memory, OpenGate, Status};
 use qk_batch_words::{call_words, read_call};
 use qk_engine::run_with_calm;
@@ -25,35 +26,24 @@ pub struct Runs<'a, R, G> {
 }
 
 impl<R: Threads + Sync, G: Gate> Task for Runs<'_, R, G> {
-    ghost use Rattle.std.specs.Prelude.{All, map, string_bytes};
+    ghost use Rattle.std.specs.Prelude.{map, string_bytes, ⊤};
     ghost use Rattle.qk_batch.specs.Feeding.{IsBlockAt};
-    ghost use Rattle.qk_batch_words.specs.Accepted.{IsCallFor};
 
     type Answer = Block;
 
-    ghost ready = { λ runs. All (IsCallFor (map string_bytes runs.options.now)) (map string_bytes runs.names.now) };
+    ghost ready = { λ runs. ⊤ };
 
     ghost answers = { λ runs number input block. IsBlockAt (map string_bytes runs.options.now) (map string_bytes runs.names.now) number input block };
 
     fn perform(&self, number: u32, input: &Bytes) -> Result<Block, Memory> {
         self.gate.enter(number);
-        match self.names.get(number as usize) {
-            None => Ok(Block {
-                status: Status::AllPassed,
-                text: Bytes::make(self.alloc),
-            }),
-            Some(name) => run_file(
-                self.rt,
-                self.alloc,
-                self.options,
-                name.as_str(),
-                input.as_slice(),
-            ),
-        }
+        let name = name_of(self.names, number);
+        run_file(self.rt, self.alloc, self.options, name, input.as_slice())
     }
 }
 
-// The run of a file of these bytes, or of a longer one that begins with them where they are the most that is loaded.
+// The run of a file of which these bytes were loaded: all, or as many as a file may have and one more. Options that do not fit the
+// name, which accepted words do not have, are taken for want of memory.
 fn run_file<R: Threads + Sync>(
     rt: &R,
     alloc: Global,
@@ -61,12 +51,11 @@ fn run_file<R: Threads + Sync>(
     name: &str,
     bytes: &[u8],
 ) -> Result<Block, Memory>
-    requires { IsCallFor (map string_bytes options.now) name.now }
-    ensures { IfOk result (λ block. (whole : List ℕ) → bytes.now ≡ take 1048577 whole → Replies (map string_bytes options.now ++ name.now ∷ []) whole block.status block.text.items) }
+    ensures { IfOk result (λ block. IsCallFor (map string_bytes options.now) name.now → (whole : List ℕ) → bytes.now ≡ take 1048577 whole → Replies (map string_bytes options.now ++ name.now ∷ []) whole block.status block.text.items) }
 {
     let words = call_words(alloc, options, name)?;
     match read_call(alloc, words.as_slice(), name)? {
-        None => unreachable!(),
+        None => Err(Memory),
         Some(settings) => run_alone(rt, alloc, &settings, name, bytes),
     }
 }
@@ -96,8 +85,7 @@ fn run_alone<R: Threads + Sync>(
         work: settings.work,
         aim: Aim::File(name),
     };
-    let mut library = CalmLibrary::make(alloc, 1_048_577);
-    library.add(alloc, name, bytes)?;
+    let mut library = one_file(alloc, name, bytes)?;
     match run_with_calm(rt, alloc, &alone, &mut library, &OpenGate) {
         Ok(made) => Ok(Block {
             status: made.status,
@@ -105,4 +93,13 @@ fn run_alone<R: Threads + Sync>(
         }),
         Err(_) => Err(Memory),
     }
+}
+
+// A library with that file alone.
+fn one_file(alloc: Global, name: &str, bytes: &[u8]) -> Result<CalmLibrary, Memory>
+    ensures { IfOk result (λ library. library.files ≡ record { name = name.now; bytes = bytes.now } ∷ []) }
+{
+    let mut library = CalmLibrary::make(alloc, 1_048_577);
+    library.add(alloc, name, bytes)?;
+    Ok(library)
 }

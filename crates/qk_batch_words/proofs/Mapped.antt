@@ -14,7 +14,7 @@ module _ {X Y : Type 0} (f : X → Y) (xs : List X) (i : ℕ) (x : X) (within : 
   mapped_more = take_more (map f xs) i (f x) mapped_within ∙ ap (λ y. take i (map f xs) ++ y ∷ []) (mapped_at (f x))
 
 -- what stands behind the item at n
-behind : {X : Type 0} (n : ℕ) (xs : List X) (x : X) (rest : List X) → drop n xs ≡ x ∷ rest → drop (suc n) xs ≡ rest
+pub behind : {X : Type 0} (n : ℕ) (xs : List X) (x : X) (rest : List X) → drop n xs ≡ x ∷ rest → drop (suc n) xs ≡ rest
 behind zero xs x rest e = ap (drop 1) e
 behind (suc n) [] x rest e = absurd (cc)
 behind (suc n) (y ∷ ys) x rest e = behind n ys x rest e
