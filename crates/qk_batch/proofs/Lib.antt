@@ -1,3 +1,4 @@
 pub mod Facts
 pub mod FileReplies
 pub mod Placed
+pub mod WordsReplies
