@@ -1,3 +1,5 @@
+pub mod CheckpointSteps
+pub mod DecidedExamples
 pub mod Examples
 pub mod Raising
 pub mod SequentialRun
