@@ -57,12 +57,15 @@ module _ (limits : LimitsData) where
       ∙ (ap (λ (cs : List ℕ). least_or limits.success (filter (nat_lt n) cs)) (one_checkpoint e)
       ∙ alone n limits.success (nat_lt n limits.success))
 
-  last_by : (b : Bool) → decides limits ≡ b → InRange limits → last_checkpoint limits ≤ 1_000_000
-  last_by true e range = subst (λ (cs : List ℕ). greatest cs ≤ 1_000_000) (sym (some_checkpoints e)) (greatest_small 1_000_000 (doubles 11 limits.success))
-  last_by false e range = let last = one_last e in let most = range.success in omega (arith, last, most)
+  last_by : (b : Bool) → decides limits ≡ b → limits.success ≤ 1_000_000 → last_checkpoint limits ≤ 1_000_000
+  last_by true e most = subst (λ (cs : List ℕ). greatest cs ≤ 1_000_000) (sym (some_checkpoints e)) (greatest_small 1_000_000 (doubles 11 limits.success))
+  last_by false e most = let last = one_last e in omega (arith, last, most)
+
+  pub greatest_checkpoint : limits.success ≤ 1_000_000 → last_checkpoint limits ≤ 1_000_000
+  greatest_checkpoint most = last_by (decides limits) refl most
 
   pub last_small : InRange limits → last_checkpoint limits ≤ 1_000_000
-  last_small range = last_by (decides limits) refl range
+  last_small range = greatest_checkpoint range.success
 
   met_or_missed : (below clear met : Bool) (i : ℕ) (later : Option ℕ) → clear ≡ true → (if below && clear then Some i else later) ≡ None → (later ≡ None → met ≡ true)
       → ((not below && clear) && met) ≡ true
