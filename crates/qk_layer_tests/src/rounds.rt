@@ -2,6 +2,7 @@
 ghost use Rattle.std.specs.Prelude.{◌≡◌, ℕ, nat_eq, [], length, if◌then◌else◌};
 ghost use Rattle.qk_base.specs.declared.outcome.Verdict.TheVariants as verdicts;
 ghost use Rattle.qk_base.specs.declared.outcome.Cause.TheVariants as causes;
+ghost use Rattle.qk_schedule.specs.LimitsData.{InRange};
 
 use qk_base::{Bytes, Cause, Marks, Memory, OpenGate, Outcome, Seq, Tally, Verdict};
 use qk_rounds::{Finish, Slots, Trial, Work, drive, round};
@@ -72,12 +73,17 @@ impl Tally for Added {
     }
 }
 
-const USUAL: Limits = Limits {
-    success: 100,
-    ratio: 10,
-    max_size: 100,
-    covers: 0,
-};
+fn usual(alloc: Global) -> Limits
+    ensures { InRange result × (result.covers ≡ []) }
+{
+    Limits {
+        success: 100,
+        ratio: 10,
+        max_size: 100,
+        covers: Seq::make(alloc),
+        decide: false,
+    }
+}
 
 const FOURTEEN: Work = Work {
     windows: 14,
@@ -102,7 +108,7 @@ fn runs_do_not_depend_on_workers(rt: HostRuntime) -> Result<(), Fail> {
     ] {
         let mut trial = Sizes { first: 0, count: 0 };
         let mut tally = Added { count: 0 };
-        let course = QuickCourse::make(USUAL);
+        let course = QuickCourse::make(usual(rt.alloc()));
         let ended = drive(
             &rt,
             rt.alloc(),
@@ -133,7 +139,7 @@ fn runs_do_not_depend_on_workers(rt: HostRuntime) -> Result<(), Fail> {
 #[test]
 fn a_round_stores_answers_up_to_the_first_failure(rt: HostRuntime) -> Result<(), Fail> {
     let trial = Sizes { first: 0, count: 8 };
-    let course = QuickCourse::make(USUAL);
+    let course = QuickCourse::make(usual(rt.alloc()));
     let state = course.start(rt.alloc())?;
     let mut slots = Slots::make(rt.alloc(), 8)?;
     let stored = round(

@@ -25,8 +25,11 @@ fn checkpoint_from(limits: &Limits, n: u64) -> u64
     if !decides(limits) {
         return checkpoint;
     }
-    for _ in 0..10 {
-        if checkpoint >= n || 2 * checkpoint > MOST {
+    for _ in 0..10u32 {
+        if checkpoint >= n {
+            return checkpoint;
+        }
+        if 2 * checkpoint > MOST {
             return checkpoint;
         }
         checkpoint = 2 * checkpoint;

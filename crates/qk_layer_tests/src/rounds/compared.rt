@@ -3,7 +3,7 @@ ghost use Rattle.std.specs.Prelude.{◌≡◌, ◌<◌, ◌≤◌, ◌+◌, ◌*
 ghost use Rattle.qk_base.specs.Judged.{passes};
 ghost use Rattle.qk_base.specs.declared.outcome.Verdict.TheVariants as verdicts;
 ghost use Rattle.qk_base.specs.declared.outcome.Cause.TheVariants as causes;
-ghost use Rattle.qk_schedule.specs.Schedule.{InRange};
+ghost use Rattle.qk_schedule.specs.LimitsData.{InRange};
 
 use super::plain::{SlowEnd, slow_run};
 use qk_base::{Bytes, Cause, Marks, Memory, OpenGate, Outcome, Seq, Tally, Verdict};
@@ -75,6 +75,14 @@ impl Tally for Committed {
     }
 }
 
+/// How far a run goes.
+#[derive(Clone, Copy)]
+struct Bounds {
+    success: u64,
+    ratio: u64,
+    ghost in_range: { (0 < success) × (success ≤ 1000) × (0 < ratio) × (ratio ≤ 100) },
+}
+
 /// What a run comes to.
 #[derive(Drop)]
 struct Told {
@@ -98,14 +106,13 @@ impl Told {
 }
 
 /// A run by the plain slow program, and the number of its attempts.
-fn slowly(alloc: Global, limits: Limits, mut trial: Mixed) -> Result<(Told, u64), Memory>
-    requires limits { InRange limits × (limits.covers ≡ 0) }
+fn slowly(alloc: Global, bounds: Bounds, mut trial: Mixed) -> Result<(Told, u64), Memory>
     requires fresh { trial.count ≡ 0 }
 {
     let mut tally = Committed {
         passes: Seq::make(alloc),
     };
-    let course = QuickCourse::make(limits);
+    let course = QuickCourse::make(limits_within(alloc, bounds));
     let SlowEnd {
         state,
         finish,
@@ -126,12 +133,11 @@ fn slowly(alloc: Global, limits: Limits, mut trial: Mixed) -> Result<(Told, u64)
 fn by_windows<R: Threads + Sync>(
     rt: &R,
     alloc: Global,
-    limits: Limits,
+    bounds: Bounds,
     mut trial: Mixed,
     workers: u32,
     window: u32,
 ) -> Result<(Told, Work), Memory>
-    requires limits { InRange limits × (limits.covers ≡ 0) }
     requires fresh { trial.count ≡ 0 }
     requires workers { (0 < workers) × (workers ≤ 64) }
     requires window { (0 < window) × (window ≤ 4096) }
@@ -139,7 +145,7 @@ fn by_windows<R: Threads + Sync>(
     let mut tally = Committed {
         passes: Seq::make(alloc),
     };
-    let course = QuickCourse::make(limits);
+    let course = QuickCourse::make(limits_within(alloc, bounds));
     let Ended {
         state,
         finish,
@@ -162,18 +168,17 @@ fn by_windows<R: Threads + Sync>(
 fn freely<R: Threads + Sync>(
     rt: &R,
     alloc: Global,
-    limits: Limits,
+    bounds: Bounds,
     mut trial: Mixed,
     workers: u32,
 ) -> Result<Told, Memory>
-    requires limits { InRange limits × (limits.covers ≡ 0) }
     requires fresh { trial.count ≡ 0 }
     requires workers { (0 < workers) × (workers ≤ 64) }
 {
     let mut tally = Committed {
         passes: Seq::make(alloc),
     };
-    let course = QuickCourse::make(limits);
+    let course = QuickCourse::make(limits_within(alloc, bounds));
     let Reached { state, finish } = drive_freely(
         rt, alloc, &OpenGate, &course, &mut trial, &mut tally, workers,
     )?;
@@ -190,18 +195,17 @@ fn freely<R: Threads + Sync>(
 fn agree<R: Threads + Sync>(
     rt: &R,
     alloc: Global,
-    limits: Limits,
+    bounds: Bounds,
     mix: (u64, u64, u64),
     workers: u32,
     window: u32,
 ) -> Result<bool, Memory>
-    requires limits { InRange limits × (limits.covers ≡ 0) }
     requires modulus { 0 < mix.0 }
     requires workers { (0 < workers) × (workers ≤ 64) }
     requires window { (0 < window) × (window ≤ 4096) }
 {
-    let (slow, attempts) = slowly(alloc, limits, trial_of(mix))?;
-    let (told, work) = by_windows(rt, alloc, limits, trial_of(mix), workers, window)?;
+    let (slow, attempts) = slowly(alloc, bounds, trial_of(mix))?;
+    let (told, work) = by_windows(rt, alloc, bounds, trial_of(mix), workers, window)?;
     let singly = window > 1 || (work.windows == work.trials && work.rounds == work.trials);
     Ok(told.is_same(&slow) && singly && attempts <= work.trials)
 }
@@ -222,15 +226,21 @@ fn trial_of(mix: (u64, u64, u64)) -> Mixed
 
 const NEVER: u64 = 100_000;
 
-fn small(success: u64, ratio: u64) -> Limits
+fn small(success: u64, ratio: u64) -> Bounds
     requires { (0 < success) × (success ≤ 1000) × (0 < ratio) × (ratio ≤ 100) }
-    ensures { InRange result × (result.covers ≡ 0) }
+{
+    Bounds { success, ratio }
+}
+
+fn limits_within(alloc: Global, bounds: Bounds) -> Limits
+    ensures { InRange result × (result.covers ≡ []) }
 {
     Limits {
-        success,
-        ratio,
+        success: bounds.success,
+        ratio: bounds.ratio,
         max_size: 20,
-        covers: 0,
+        covers: Seq::make(alloc),
+        decide: false,
     }
 }
 

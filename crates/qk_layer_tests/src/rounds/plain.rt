@@ -23,6 +23,7 @@ fn finished_by(stop: Stop) -> Finish
     match stop {
         Stop::Passed => Finish::Passed,
         Stop::GaveUp => Finish::GaveUp,
+        Stop::Uncovered(clause) => Finish::Uncovered { clause },
     }
 }
 
