@@ -1,3 +1,4 @@
+pub mod Bounds
 pub mod CheckpointSteps
 pub mod DecidedExamples
 pub mod Examples

@@ -69,9 +69,8 @@ fn first_missed(limits: &Limits, n: u64, counts: &[u64]) -> Option<u32>
     requires counts { All (λ (count : ℕ). count ≤ 1_000_000) counts.now }
     ensures { result ≡ first_missed limits.now n 0 limits.now.covers counts.now }
 {
-    let percents = limits.covers.as_slice();
     for i in 0..counts.len() {
-        if is_missed(limits, n, percents[i], counts[i]) {
+        if is_missed(limits, n, limits.covers.as_slice()[i], counts[i]) {
             return Some(i as u32);
         }
     }
@@ -85,9 +84,8 @@ fn all_met(limits: &Limits, n: u64, counts: &[u64]) -> bool
     requires counts { All (λ (count : ℕ). count ≤ 1_000_000) counts.now }
     ensures { result ≡ all_met limits.now n limits.now.covers counts.now }
 {
-    let percents = limits.covers.as_slice();
     for i in 0..counts.len() {
-        if !is_met(limits, n, percents[i], counts[i]) {
+        if !is_met(limits, n, limits.covers.as_slice()[i], counts[i]) {
             return false;
         }
     }
