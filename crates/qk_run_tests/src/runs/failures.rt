@@ -8,7 +8,7 @@ use std::test::Fail;
 use std::thread::Threads;
 
 // Each row: words, the units of fuel, and of the failure at the first attempt its cause, the steps and candidates of its shrinking, the
-// values and the path; and a file. The last two lists of candidates before those with little fuel have 8,192 numbers.
+// values and the path; and a file.
 const FAILURES: &str =
     "f | 100000 | false | 2, tried 9 | x = 5 | 2.2 | (prop a (forall ((x (choose 8 8))) (check (< x 5))))
 --shrinks 1 f | 100000 | false | 1, tried 3, limit reached | x = 6 | 2 | (prop a (forall ((x (choose 8 8))) (check (< x 5))))
@@ -23,15 +23,21 @@ f | 100000 | out of fuel while drawing | 0, tried 0 |  | - | (gen g () Int (g)) 
 --fuel 100000 f | 100000 | out of fuel | 0, tried 0 | x = 0 | - | (fun spin ((n Int)) Int (spin n)) (prop a (forall ((x (choose 0 0))) (check (= (spin x) 0))))
 f | 100000 | value too large | 0, tried 0 | x = 0 | - | (fun grow ((xs (List Int))) (List Int) (grow (append xs xs))) (prop a (forall ((x (choose 0 0))) (check (= (length (grow (cons x (nil Int)))) 0))))
 f | 100000 | division by zero | 1, tried 1 | x = [] | 0 | (prop a (forall ((x (vector 3 (choose 3 3)))) (check (= 1 (div 1 (mod (length x) 3))))))
-f | 100000 | false | 1, tried 3 | x = 8 & y = 1 | 1 | (fun s ((x Int)) (List Int) (s x)) (prop a (forall ((x (choose 8 8) (shrink-with s)) (y (choose 2 2))) (check (< (+ x y) 9))))
-f | 100000 | false | 0, tried 8192 | x = 8 | - | (fun full ((n Int) (xs (List Int))) (List Int) (if (= n 0) xs (full (- n 1) (cons 0 (append xs xs))))) (fun s ((x Int)) (List Int) (append (full 13 (nil Int)) (cons 5 (nil Int)))) (prop a (forall ((x (pure 8) (shrink-with s))) (check (< x 8))))
---shrinks 1 f | 100000 | false | 1, tried 8192, limit reached | x = 5 | 8191 | (fun full ((n Int) (xs (List Int))) (List Int) (if (= n 0) xs (full (- n 1) (cons 0 (append xs xs))))) (fun s ((x Int)) (List Int) (append (full 13 (nil Int)) (cons 5 (nil Int)))) (prop a (forall ((x (pure 8) (shrink-with s))) (check (< x 5))))
---success 2 --fuel 10 f | 10 | out of fuel | 0, tried 4 | x = 10 | - | (fun down ((n Int)) Int (if (= n 0) 0 (+ 1 (down (- n 1))))) (prop a (forall ((x (pure 10))) (check (= x (down x)))))
+f | 100000 | false | 1, tried 3 | x = 8 & y = 1 | 1 | (fun s ((x Int)) (List Int) (s x)) (prop a (forall ((x (choose 8 8) (shrink-with s)) (y (choose 2 2))) (check (< (+ x y) 9))))";
+
+// The same where a function lists 8,192 candidates, of which the last fails or none.
+const LISTED: &str =
+    "f | 100000 | false | 0, tried 8192 | x = 8 | - | (fun full ((n Int) (xs (List Int))) (List Int) (if (= n 0) xs (full (- n 1) (cons 0 (append xs xs))))) (fun s ((x Int)) (List Int) (append (full 13 (nil Int)) (cons 5 (nil Int)))) (prop a (forall ((x (pure 8) (shrink-with s))) (check (< x 8))))
+--shrinks 1 f | 100000 | false | 1, tried 8192, limit reached | x = 5 | 8191 | (fun full ((n Int) (xs (List Int))) (List Int) (if (= n 0) xs (full (- n 1) (cons 0 (append xs xs))))) (fun s ((x Int)) (List Int) (append (full 13 (nil Int)) (cons 5 (nil Int)))) (prop a (forall ((x (pure 8) (shrink-with s))) (check (< x 5))))";
+
+// The same where one unit of fuel is missing.
+const TOO_LITTLE: &str =
+    "--success 2 --fuel 10 f | 10 | out of fuel | 0, tried 4 | x = 10 | - | (fun down ((n Int)) Int (if (= n 0) 0 (+ 1 (down (- n 1))))) (prop a (forall ((x (pure 10))) (check (= x (down x)))))
 --success 2 --fuel 99999 f | 99999 | out of fuel | 0, tried 17 | x = 99999 | - | (fun down ((n Int)) Int (if (= n 0) 0 (+ 1 (down (- n 1))))) (prop a (forall ((x (pure 99999))) (check (= x (down x)))))
 --success 2 --fuel 1 f | 1 | out of fuel | 0, tried 2 | x = 3 | - | (fun f ((x Int)) Int x) (gen g () Int (choose 3 3)) (prop a (forall ((x (g))) (given (= 3 (f x))) (check (= 3 (f x)))))
 --success 2 --fuel 1 f | 1 | out of fuel while drawing | 0, tried 0 | x = 3 | - | (fun f ((x Int)) Int x) (gen g () Int (choose 3 3)) (prop a (forall ((x (g)) (y (g))) (check (= 3 (f x)))))";
 
-// Each row: units of fuel, one more than a row above has, and its file, which passes with them.
+// Each row: units of fuel that are enough, one more than there, and the file.
 const ENOUGH: &str =
     "11 | (fun down ((n Int)) Int (if (= n 0) 0 (+ 1 (down (- n 1))))) (prop a (forall ((x (pure 10))) (check (= x (down x)))))
 100000 | (fun down ((n Int)) Int (if (= n 0) 0 (+ 1 (down (- n 1))))) (prop a (forall ((x (pure 99999))) (check (= x (down x)))))
@@ -80,6 +86,22 @@ const PASSED: &str =
 #[test]
 fn failures(rt: HostRuntime) -> Result<(), Fail> {
     for row in FAILURES.lines() {
+        fails(&rt, row)?;
+    }
+    Ok(())
+}
+
+#[test]
+fn long_lists_of_candidates(rt: HostRuntime) -> Result<(), Fail> {
+    for row in LISTED.lines() {
+        fails(&rt, row)?;
+    }
+    Ok(())
+}
+
+#[test]
+fn fuel_to_the_unit(rt: HostRuntime) -> Result<(), Fail> {
+    for row in TOO_LITTLE.lines() {
         fails(&rt, row)?;
     }
     for row in ENOUGH.lines() {
