@@ -7,9 +7,11 @@ use crate::programs::{
     binding, is_small, listed, number, printed, program, property, same, three, values,
 };
 use qk_base::Seq;
+use qk_command::draw_all_shared;
 use qk_core::{Binder, Core, Property};
-use qk_eval::{Shared, plain_all, shared_all};
+use qk_eval::{Shared, plain_all};
 use qk_shrink::{Spread, value_candidate, value_count};
+use qk_splitmix::Gen;
 use qk_value::Value;
 use std::alloc::Global;
 use std::test::Fail;
@@ -78,13 +80,14 @@ fn candidates_of_each_form(rt: HostRuntime) -> Result<(), Fail> {
     Ok(())
 }
 
-// Each row: binders, and the candidates of their values.
+// Each row: binders, and the candidates of their values. The last list has items side by side before others one by one.
 const BINDERS: &str = "(x (pure 3)) (y (pure true)) | 0 true / 2 true / 3 false / 
 (x (pure 3) no-shrink) (y (pure true)) | 3 false / 
 (x (pure 3)) (y (pure true) no-shrink) | 0 true / 2 true / 
 (x (pure 8) (shrink-with less)) (y (pure true) no-shrink) | 7 true / 
 (x (pure -8) (shrink-with less)) (y (pure true)) | -9 true / -8 false / 
-(x (pure 3) (shrink-with again)) (y (pure true)) | 3 false / ";
+(x (pure 3) (shrink-with again)) (y (pure true)) | 3 false / 
+(x (bind ys (vector 4 (pure 0)) (pure (append ys (cons 1 (cons 1 (nil Int))))))) | [] / [0, 1, 1] / [0, 0, 0] / [0, 0, 0, 1, 1] / [0, 0, 0, 1, 1] / [0, 0, 0, 1, 1] / [0, 0, 0, 1, 1] / [0, 0, 0, 0, 1] / [0, 0, 0, 0, 1] / [0, 0, 0, 0, 0, 1] / [0, 0, 0, 0, 1, 0] / ";
 
 // The texts of all candidates of several values.
 fn spread_out(
@@ -128,7 +131,7 @@ fn shrinks_binders(alloc: Global, row: &str) -> Result<(), Fail> {
     let core = program(alloc, DECLARED, stated.as_str())?;
     let binders = &property(&core, 0)?.binders;
     let values = values(alloc, &core)?;
-    let shared = shared_all(alloc, values.as_slice())?;
+    let drawn = draw_all_shared(alloc, &core, property(&core, 0)?, Gen::start(0), 0, 100_000)?;
     same(
         row,
         spread_out(alloc, &core, binders, &values)?.as_str(),
@@ -136,7 +139,7 @@ fn shrinks_binders(alloc: Global, row: &str) -> Result<(), Fail> {
     )?;
     same(
         row,
-        spread_out_shared(alloc, &core, binders, &shared)?.as_str(),
+        spread_out_shared(alloc, &core, binders, &drawn.values)?.as_str(),
         wanted,
     )
 }
