@@ -1,17 +1,16 @@
-//! Tests of the language's layers, a file a crate: values, evaluation, drawing, models and shrinking, by worked examples and with ample memory.
+//! Tests of the language's layers by programs in their own notation: values, evaluation, drawing, models and shrinking, by worked examples
+//! and with ample memory.
 #![tactic(auto)]
 
 #[cfg(test)]
-mod command;
+mod commands;
 #[cfg(test)]
-mod eval;
+mod drawing;
 #[cfg(test)]
-mod generators;
+mod evaluation;
 #[cfg(test)]
 mod programs;
 #[cfg(test)]
-mod shrink;
+mod shrinking;
 #[cfg(test)]
-mod splitmix;
-#[cfg(test)]
-mod value;
+mod values;

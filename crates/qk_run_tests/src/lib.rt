@@ -5,5 +5,3 @@
 mod programs;
 #[cfg(test)]
 mod runs;
-#[cfg(test)]
-mod wellformed;
