@@ -33,4 +33,4 @@ pub loaded_says : (d : SettingsData) (name bytes loaded : List ℕ) (s : Status)
     → FileReply (ReportReply (settings_told d)) loaded s text → ReplyOf d bytes s text
 loaded_says d name bytes loaded s text aim is said =
     subst (λ (a : AimData). FileReply (program_reply a (settings_told d)) (file_run a bytes) s text) (sym aim)
-      (front_says (ReportReply (settings_told d)) bytes s text (subst (λ (b : List ℕ). FileReply (ReportReply (settings_told d)) b s text) is said))
+    (front_says (ReportReply (settings_told d)) bytes s text (subst (λ (b : List ℕ). FileReply (ReportReply (settings_told d)) b s text) is said))

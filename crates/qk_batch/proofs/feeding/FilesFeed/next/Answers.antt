@@ -11,6 +11,6 @@ pub returns-clause-told : goal.returns-clause-told
 returns-clause-told g c =
     let holds = g.L.Library.holds c.args.self.now.library.now in
     ok_more _ _ c.load.result
-      (λ loaded told input e. told_of (take 1048577) (holds (name_at (map string_bytes c.args.self.now.names.now) c.args.number)) loaded.items input
-        (λ bytes held. told bytes (ap holds c.name_of.ensures ∙ held)) e)
-      c.load.ensures.told
+    (λ loaded told input e. told_of (take 1048577) (holds (name_at (map string_bytes c.args.self.now.names.now) c.args.number)) loaded.items input
+    (λ bytes held. told bytes (ap holds c.name_of.ensures ∙ held)) e)
+    c.load.ensures.told
