@@ -1,5 +1,6 @@
 -- An attempt that does not fail is taken by the course and by the tables of its property: its marks are as many as the clauses.
 use Rattle.std.proofs.Common.{◌≡◌, ◌∙◌, ℕ, suc, ◌<◌, ◌^◌, List, [], ◌∷◌, length, Some, None, refl, sym, ap, subst}
+use Rattle.std.proofs.lemmas.List.{length-map}
 use Rattle.std.specs.List.{filter_map}
 use Rattle.qk_base.specs.Judged.{Judged, Marked, DoesNotFail}
 use Rattle.qk_base.specs.declared.outcome.Verdict.{Verdict}

@@ -7,6 +7,7 @@ use std::test::Fail;
 use std::thread::Threads;
 
 mod calm;
+mod coverage;
 mod fuel;
 mod generated;
 mod hostile;
