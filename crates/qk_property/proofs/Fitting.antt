@@ -122,7 +122,7 @@ course_takes_at p q limits same covers c seed fuel = course_takes q limits (cove
 
 -- there are as many percentages as cover clauses
 pub as_many_percents : (marks : List MarkData) → length (percents_of marks) ≡ length (wanted_of marks)
-as_many_percents marks = length-map (λ w. w.percent) (wanted_of marks)
+as_many_percents marks = length-map (wanted_of marks) (λ w. w.percent)
 
 -- the limits of a run are in range
 pub limits_in_range : (s : RunSettings) (p : PropertyData) → AreInRange s → length (percents_of p.marks) < 2 ^ 32 → InRange (limits_of (report_settings s) p)

@@ -108,7 +108,6 @@ module _ (limits : LimitsData) where
   not_last n counts true true at e = absurd (decided_at_last n counts at e)
   not_last n counts false true at e = absurd (decided_at_last n counts at e)
 
-
   stop_decided : (c : Counts) → decides limits ≡ true
       → stop_at limits c ≡ or_gives_up (if at_checkpoint limits c.successes then coverage limits c.successes c.covers else None) (nat_le (limits.ratio * target limits c.successes) c.discards)
   stop_decided c e = rw e refl

@@ -16,5 +16,7 @@ pub enum Finish {
         cause: Cause,
     },
     /// The coverage was decided, and a cover clause is missed: its index among the cover clauses, counted from 0.
-    Uncovered { clause: u32 },
+    Uncovered {
+        clause: u32,
+    },
 }

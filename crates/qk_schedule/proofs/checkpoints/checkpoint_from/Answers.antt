@@ -1,4 +1,4 @@
-use Rattle.std.proofs.Common.{◌≡◌, ◌∙◌, ◌+◌, ◌-◌, ◌<◌, ◌≤◌, ℕ, suc, refl, sym, ap, subst, arith}
+use Rattle.std.proofs.Common.{◌≡◌, ◌∙◌, ◌+◌, ◌-◌, ℕ, suc, sym, ap, arith}
 use Rattle.qk_schedule.specs.LimitsData.{LimitsData}
 use Rattle.qk_schedule.proofs.CheckpointSteps.{from_doubles, from_alone, from_decided, stays_here, stays_last, stays_alone, moves_on}
 use Rattle.qk_schedule.proofs.checkpoints.checkpoint_from.Goals as goal

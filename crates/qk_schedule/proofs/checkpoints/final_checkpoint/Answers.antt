@@ -1,4 +1,4 @@
-use Rattle.std.proofs.Common.{rules, ◌≡◌, ◌∙◌, ◌+◌, ◌*◌, ◌<◌, ◌≤◌, ◌^◌, ℕ, length, nat_le, refl, sym, ap, subst, arith}
+use Rattle.std.proofs.Common.{◌∙◌, arith}
 use Rattle.qk_schedule.proofs.CheckpointSteps.{from_small, last_from}
 use Rattle.qk_schedule.proofs.checkpoints.final_checkpoint.Goals as goal
 

@@ -1,4 +1,4 @@
-use Rattle.std.proofs.Common.{rules, ◌≡◌, ◌∙◌, ◌+◌, ◌*◌, ◌<◌, ◌≤◌, ◌^◌, ℕ, length, nat_le, refl, sym, ap, subst, arith}
+use Rattle.std.proofs.Common.{◌∙◌, ℕ, nat_le, ap}
 use Rattle.qk_schedule.proofs.CheckpointSteps.{at_from}
 use Rattle.qk_schedule.proofs.checkpoints.is_at_checkpoint.Goals as goal
 

@@ -1,4 +1,5 @@
-use Rattle.std.proofs.Common.{◌≡◌, ◌∙◌, ◌+◌, ◌<◌, ◌≤◌, ℕ, List, length, get_or, min, refl, sym, ap, subst, arith, common_steps}
+use Rattle.std.proofs.Common.{◌≡◌, ◌∙◌, ◌+◌, ◌<◌, ◌≤◌, ℕ, List, length, get_or, min, refl, sym, ap, subst, arith}
+use Rattle.std.proofs.lemmas.Grind.{common_steps}
 use Rattle.qk_schedule.specs.Checked.{checkpoint_from}
 use Rattle.qk_schedule.proofs.CheckpointSteps.{from_small, target_from}
 use Rattle.qk_schedule.proofs.checkpoints.next_checkpoint.Goals as goal

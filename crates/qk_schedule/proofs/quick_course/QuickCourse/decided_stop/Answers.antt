@@ -1,4 +1,4 @@
-use Rattle.std.proofs.Common.{◌≡◌, ◌∙◌, ◌+◌, ◌<◌, ◌≤◌, ℕ, List, length, get_or, min, refl, sym, ap, subst, arith, common_steps}
+use Rattle.std.proofs.Common.{◌≡◌, ◌∙◌, ◌+◌, ◌<◌, ◌≤◌, ℕ, List, length, get_or, min, refl, sym, ap, subst, arith}
 use Rattle.qk_schedule.specs.Counts.{Counts}
 use Rattle.qk_schedule.proofs.Bounds.{few_successes, few_covers}
 use Rattle.qk_schedule.proofs.quick_course.QuickCourse.decided_stop.Goals as goal

@@ -1,4 +1,4 @@
-use Rattle.std.proofs.Common.{◌≡◌, ◌∙◌, ◌+◌, ◌<◌, ◌≤◌, ℕ, List, length, get_or, min, refl, sym, ap, subst, arith, common_steps}
+use Rattle.std.proofs.Common.{◌≡◌, ◌∙◌, ◌+◌, ◌<◌, ◌≤◌, ℕ, List, length, get_or, min, refl, sym, ap, subst, arith}
 use Rattle.qk_schedule.proofs.Bounds.{few_planned}
 use Rattle.qk_schedule.proofs.quick_course.QuickCourseCourse.plan_size.Goals as goal
 

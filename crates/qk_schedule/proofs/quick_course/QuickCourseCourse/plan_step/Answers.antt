@@ -1,4 +1,5 @@
-use Rattle.std.proofs.Common.{◌≡◌, ◌∙◌, ◌+◌, ◌<◌, ◌≤◌, ℕ, List, length, get_or, min, refl, sym, ap, subst, arith, common_steps}
+use Rattle.std.proofs.Common.{◌≡◌, ◌∙◌, ◌+◌, ◌<◌, ◌≤◌, ℕ, List, length, get_or, min, refl, sym, ap, subst, arith}
+use Rattle.std.proofs.lemmas.Grind.{common_steps}
 use Rattle.qk_schedule.proofs.Bounds.{few_planned, few_planned_discards}
 use Rattle.qk_schedule.proofs.quick_course.QuickCourseCourse.plan_step.Goals as goal
 

@@ -1,4 +1,4 @@
-use Rattle.std.proofs.Common.{◌≡◌, ◌∙◌, ◌+◌, ◌<◌, ◌≤◌, ℕ, List, length, get_or, min, refl, sym, ap, subst, arith, common_steps}
+use Rattle.std.proofs.Common.{◌≡◌, ◌∙◌, ◌+◌, ◌<◌, ◌≤◌, ℕ, List, length, get_or, min, refl, sym, ap, subst, arith}
 use Rattle.qk_schedule.specs.Counts.{Counts}
 use Rattle.qk_schedule.proofs.Bounds.{few_successes}
 use Rattle.qk_schedule.proofs.quick_course.QuickCourseCourse.size.Goals as goal

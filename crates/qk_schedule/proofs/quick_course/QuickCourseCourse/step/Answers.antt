@@ -1,4 +1,5 @@
-use Rattle.std.proofs.Common.{◌≡◌, ◌∙◌, ◌+◌, ◌<◌, ◌≤◌, ℕ, List, length, get_or, min, refl, sym, ap, subst, arith, common_steps}
+use Rattle.std.proofs.Common.{◌≡◌, ◌∙◌, ◌+◌, ◌<◌, ◌≤◌, ℕ, List, length, get_or, min, refl, sym, ap, subst, arith}
+use Rattle.std.proofs.lemmas.Grind.{common_steps}
 use Rattle.qk_schedule.specs.Counts.{Counts}
 use Rattle.qk_schedule.proofs.Bounds.{few_successes, few_discards, few_recent, few_covers_wide}
 use Rattle.qk_schedule.proofs.quick_course.QuickCourseCourse.step.Goals as goal
