@@ -69,7 +69,7 @@ pub fn values(alloc: Global, core: &Core) -> Result<Seq<Value>, Fail>
 
 /// The generator of a row, counted from 0.
 pub fn generator(core: &Core, row: usize) -> Result<&GenExpr, Fail> {
-    let number = (row as u32).saturating_add(1);
+    let number = u32::try_from(row)?.saturating_add(1);
     match property(core, number)?.binders.as_slice() {
         [_, _, _, binder] => match &binder.draw {
             Draw::Plain(generator) => Ok(generator),
@@ -111,9 +111,9 @@ pub fn number(digits: &str) -> u64 {
     number
 }
 
-/// A number of at most 32 bits.
+/// A number of 32 bits; the greatest of them for a greater one.
 pub fn small(digits: &str) -> u32 {
-    number(digits) as u32
+    u32::try_from(number(digits)).unwrap_or(u32::MAX)
 }
 
 /// The text of a value.
