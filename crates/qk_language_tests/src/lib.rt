@@ -1,16 +1,17 @@
-//! Tests of the language's layers by programs in their own notation: values, evaluation, drawing, models and shrinking, by worked examples
-//! and with ample memory.
+//! Tests of the language's layers, a file a crate: values, evaluation, drawing, models and shrinking, by worked examples and with ample memory.
 #![tactic(auto)]
 
 #[cfg(test)]
-mod commands;
+mod command;
 #[cfg(test)]
-mod drawing;
+mod eval;
 #[cfg(test)]
-mod evaluation;
+mod generators;
 #[cfg(test)]
 mod programs;
 #[cfg(test)]
-mod shrinking;
+mod shrink;
 #[cfg(test)]
-mod values;
+mod splitmix;
+#[cfg(test)]
+mod value;

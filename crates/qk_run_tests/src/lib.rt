@@ -5,3 +5,5 @@
 mod programs;
 #[cfg(test)]
 mod runs;
+#[cfg(test)]
+mod wellformed;
