@@ -24,10 +24,12 @@ use Rattle.qk_words.specs.SettingsData.{SettingsData, AimData, whole, replayed, 
 use Rattle.qk_engine.specs.Agreeing.{AreOfOneAttempt, AreShrunkOtherwise, TellOtherWork, AgreeInBlocks, AgreeOn}
 use Rattle.qk_engine.specs.Laws.{GreedyDecidesOnlyShrinks, GreedyIsForFiles, WindowDecidesOnlyWorkLines}
 use Rattle.qk_engine.specs.Program.{AreBlocks, IsReport, status_of, totals_line}
-use Rattle.qk_engine.specs.Reply.{IsFault, IsProgram, FileReply, ReplyOf, ReportReply, Refuses, program_reply, file_run, refusal}
+use Rattle.qk_file.specs.Files.{IsFault, IsProgram, FileReply, Refuses, refusal}
+use Rattle.qk_engine.specs.Reply.{ReplyOf, ReportReply, program_reply, file_run}
 use Rattle.qk_engine.specs.Settings.{settings_told, with_window, with_greedy}
-use Rattle.qk_engine.proofs.OneReply.{one_to_program, faults_are_one}
-use Rattle.qk_engine.proofs.Replies.{program_has_no_fault, programs_are_one}
+use Rattle.qk_file.proofs.FileLaws.{faults_are_one}
+use Rattle.qk_engine.proofs.OneReply.{one_to_program}
+use Rattle.qk_file.proofs.FileLaws.{program_has_no_fault, programs_are_one}
 
 -- the settings of a report with another window told, or with greedy shrinking or without
 abbrev told_by : Option ℕ → ReportSettings → ReportSettings

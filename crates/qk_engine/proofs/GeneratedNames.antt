@@ -9,11 +9,11 @@ use Rattle.std.proofs.lemmas.List.Sums.{sum_by-append}
 use Rattle.std.proofs.lemmas.Slice.Eq.{bytes_eq-Decides}
 use Rattle.qk_syntax.specs.Words.{is_digit, is_number_word, begins_with_digit}
 use Rattle.qk_syntax.proofs.PrintedNumbers.{printed_number}
-use Rattle.qk_types.specs.Names.{Declared, is_declared, is_known, number_of, is_of}
-use Rattle.qk_types.specs.Reserved.{Word, is_reserved}
-use Rattle.qk_types.specs.declared.names.Item.TheVariants as items
-use Rattle.qk_types.specs.declared.names.Named.{Named}
-use Rattle.qk_types.specs.declared.names.Named.TheVariants as named
+use Rattle.qk_names.specs.Names.{Declared, is_declared, is_known, number_of, is_of}
+use Rattle.qk_names.specs.Reserved.{Word, is_reserved}
+use Rattle.qk_names.specs.declared.names.Item.TheVariants as items
+use Rattle.qk_names.specs.declared.names.Named.{Named}
+use Rattle.qk_names.specs.declared.names.Named.TheVariants as named
 use Rattle.qk_wellformed.specs.AreNames.{with_name}
 use Rattle.qk_engine.proofs.GeneratedTrees.{name_of}
 

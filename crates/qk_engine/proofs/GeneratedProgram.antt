@@ -6,7 +6,7 @@ use Rattle.qk_syntax.specs.Spelling.{Spells}
 use Rattle.qk_syntax.proofs.Printed.{canonical_spells}
 use Rattle.qk_wellformed.specs.StandsFor.{StandsFor}
 use Rattle.qk_engine.specs.Generated.{generated_file}
-use Rattle.qk_engine.specs.Reply.{IsProgram}
+use Rattle.qk_file.specs.Files.{IsProgram}
 use Rattle.qk_engine.proofs.GeneratedTrees.{properties_from}
 use Rattle.qk_engine.proofs.PlacedTrees.{nowhere, all_at}
 use Rattle.qk_engine.proofs.PlacedTrees.{all_placed, all_unplaced}

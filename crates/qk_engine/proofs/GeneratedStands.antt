@@ -8,12 +8,12 @@ use Rattle.qk_core.specs.declared.expr.Op1.TheVariants as ones
 use Rattle.qk_core.specs.declared.expr.Op2.TheVariants as twos
 use Rattle.qk_core.specs.declared.property.ShrinkBy.TheVariants as shrinks
 use Rattle.qk_value.specs.Types.{TypeData, int_type, list_type}
-use Rattle.qk_types.specs.Drawing.{values, sized, choose, vector}
-use Rattle.qk_types.specs.Headers.{no_headers}
-use Rattle.qk_types.specs.Names.{Declared, number_of}
-use Rattle.qk_types.specs.Operators.{Tables, operator, unary, binary}
-use Rattle.qk_types.specs.declared.names.Item.TheVariants as items
-use Rattle.qk_types.specs.declared.names.Named.TheVariants as named
+use Rattle.qk_generators.specs.Drawing.{values, sized, choose, vector}
+use Rattle.qk_headers.specs.Headers.{no_headers}
+use Rattle.qk_names.specs.Names.{Declared, number_of}
+use Rattle.qk_typing.specs.Operators.{Tables, operator, unary, binary}
+use Rattle.qk_names.specs.declared.names.Item.TheVariants as items
+use Rattle.qk_names.specs.declared.names.Named.TheVariants as named
 use Rattle.qk_wellformed.specs.AreHeaders.{HeadersFrom, IsForall}
 use Rattle.qk_wellformed.specs.AreNames.{DeclareItems, with_name}
 use Rattle.qk_wellformed.specs.StandsFor.{StandsFor, IsProperty, BodiesFrom, no_bodies}

@@ -10,7 +10,6 @@ pub mod Joined
 pub mod OneReply
 pub mod PlacedTrees
 pub mod ProgramLaws
-pub mod ReadingLaws
 pub mod Replies
 pub mod SomeReply
 pub mod WordsReplies

@@ -1,8 +1,6 @@
 -- Words and bytes have one reply, where no shrink is greedy.
 use Rattle.std.proofs.Common.{◌≡◌, ◌∙◌, ℕ, ◌+◌, List, [], ◌∷◌, ◌++◌, Option, Some, None, Bool, false, slice_get, refl, sym, ap, subst, inl, inr}
 use Rattle.std.specs.Prelude.{unwrap_or}
-use Rattle.qk_base.specs.declared.place.Refusal.{Refusal}
-use Rattle.qk_base.specs.declared.status.Status.{Status}
 use Rattle.qk_base.specs.declared.outcome.Cause.TheVariants.{False}
 use Rattle.qk_command.specs.Drawing.{DrawnValues}
 use Rattle.qk_core.specs.Program.{ProgramData}
@@ -18,25 +16,15 @@ use Rattle.qk_report.specs.PropertyBlock.{property_block}
 use Rattle.qk_report.specs.Token.{TokenData}
 use Rattle.qk_schedule.specs.declared.finish.Finish.{Finish}
 use Rattle.qk_schedule.specs.declared.finish.Finish.TheVariants as finish
-use Rattle.qk_syntax.proofs.TextRead.{spelled_has_no_fault, one_spelling}
-use Rattle.qk_types.specs.Elaboration.{type_fault}
 use Rattle.qk_words.specs.Given.{AreSettings}
 use Rattle.qk_words.specs.SettingsData.{SettingsData, AimData, whole, replayed, generated}
 use Rattle.qk_words.proofs.OneAnswer.{one_settings, no_bad_token}
 use Rattle.qk_engine.specs.Laws.{IsDetermined}
 use Rattle.qk_engine.specs.Program.{AreBlocks, IsReport, status_of, totals_line}
 use Rattle.qk_engine.specs.Replay.{property_reply, point_reply, point_of}
-use Rattle.qk_engine.specs.Reply.{IsFault, FileReply, ReplyOf, Replies, program_reply, file_run, refusal}
+use Rattle.qk_engine.specs.Reply.{ReplyOf, Replies, program_reply, file_run}
 use Rattle.qk_engine.specs.Settings.{settings_told}
-use Rattle.qk_engine.proofs.Replies.{program_has_no_fault, programs_are_one}
-
--- two answers are the same
-abbrev Same : Status → List ℕ → Status → List ℕ → Type 0
-Same s text t other = (s ≡ t) × (text ≡ other)
-
--- replies of a kind are one
-abbrev pub IsOne : (Status → List ℕ → Type 0) → Type 0
-IsOne answers = (s : Status) (text : List ℕ) (t : Status) (other : List ℕ) → answers s text → answers t other → Same s text t other
+use Rattle.qk_file.proofs.FileLaws.{IsOne, one_file}
 
 module _ (s : ReportSettings) (c : ProgramData) (plain : s.greedy ≡ false) where
   one_shrunk : (p : PropertyData) (point : DrawnValues) (m n : Minimal DrawnValues) → IsShrunk s c p point m → IsShrunk s c p point n → m ≡ n
@@ -77,22 +65,6 @@ pub one_to_program : (r : ReportSettings) (c : ProgramData) (aim : AimData) → 
 one_to_program r c (whole name) plain s text u other a b = one_report r c (plain name refl) s text u other a b
 one_to_program r c (replayed token name) plain s text u other a b = one_property c token (slice_get c.properties token.property) s text u other a b
 one_to_program r c (generated n) plain s text u other (e, is) (f, js) = (e ∙ sym f, is ∙ sym js)
-
--- a file has one fault at most
-pub faults_are_one : (bytes : List ℕ) (r q : Refusal) → IsFault bytes r → IsFault bytes q → r ≡ q
-faults_are_one bytes r q (inl e) (inl f) = let both = sym e ∙ f in cc
-faults_are_one bytes r q (inl e) (inr trees) = let both = sym (spelled_has_no_fault bytes trees.0 trees.1) ∙ e in absurd (cc)
-faults_are_one bytes r q (inr trees) (inl f) = let both = sym (spelled_has_no_fault bytes trees.0 trees.1) ∙ f in absurd (cc)
-faults_are_one bytes r q (inr trees) (inr others) =
-    let same : trees.0 ≡ others.0 = one_spelling bytes trees.0 others.0 trees.1 others.1 in
-    let both = sym trees.2 ∙ (ap type_fault same ∙ others.2) in cc
-
-one_file : (answers : ProgramData → Status → List ℕ → Type 0) (bytes : List ℕ) → ((c : ProgramData) → IsOne (answers c)) → IsOne (FileReply answers bytes)
-one_file answers bytes one s text u other (inl (r, fault, (e, is))) (inl (q, same, (f, js))) = (e ∙ sym f, is ∙ (ap refusal (faults_are_one bytes r q fault same) ∙ sym js))
-one_file answers bytes one s text u other (inl (r, fault, refuses)) (inr (c, program, said)) = absurd (program_has_no_fault bytes c program r fault)
-one_file answers bytes one s text u other (inr (c, program, said)) (inl (r, fault, refuses)) = absurd (program_has_no_fault bytes c program r fault)
-one_file answers bytes one s text u other (inr (c, program, a)) (inr (d, same, b)) =
-    one d s text u other (subst (λ (x : ProgramData). answers x s text) (programs_are_one bytes c d program same) a) b
 
 one_to_settings : (d : SettingsData) (bytes : List ℕ) → IsDetermined d → IsOne (ReplyOf d bytes)
 one_to_settings d bytes plain = one_file (program_reply d.aim (settings_told d)) (file_run d.aim bytes) (λ c. one_to_program (settings_told d) c d.aim plain)

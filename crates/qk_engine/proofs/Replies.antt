@@ -1,8 +1,5 @@
--- What the front of a file says of the whole, and what a reply tells.
-use Rattle.std.proofs.Common.{◌≡◌, ℕ, ◌+◌, ◌<◌, ◌∙◌, Bool, true, false, nat_eq, if◌then◌else◌, List, Option, Some, None, take, length, slice_get, arith, refl, sym, ap, subst, inl, inr}
-use Rattle.std.proofs.lemmas.Bool.{cases_lt, lt-ltb}
-use Rattle.std.proofs.lemmas.List.{take_all, length-take-le}
-use Rattle.qk_base.specs.declared.place.Refusal.{Refusal}
+-- What a reply tells.
+use Rattle.std.proofs.Common.{◌≡◌, ℕ, ◌+◌, ◌<◌, ◌∙◌, Bool, true, false, nat_eq, if◌then◌else◌, List, Option, Some, None, length, slice_get, refl, sym, ap, subst, inl, inr}
 use Rattle.qk_base.specs.declared.status.Status.{Status}
 use Rattle.qk_base.specs.declared.status.Status.TheVariants as status
 use Rattle.qk_command.specs.Drawing.{DrawnValues}
@@ -10,82 +7,20 @@ use Rattle.qk_core.specs.Program.{ProgramData}
 use Rattle.qk_core.specs.Properties.{PropertyData}
 use Rattle.qk_property.specs.Settings.{ReportSettings}
 use Rattle.qk_report.specs.Token.{TokenData}
-use Rattle.qk_syntax.specs.Places.{start}
-use Rattle.qk_syntax.specs.PlainTrees.{PlainTrees}
-use Rattle.qk_syntax.specs.TextFault.{text_fault, fault}
-use Rattle.qk_syntax.proofs.TextRead.{spelled_has_no_fault, one_spelling}
-use Rattle.qk_types.specs.Elaboration.{type_fault}
-use Rattle.qk_wellformed.specs.StandsFor.{StandsFor}
-use Rattle.qk_wellformed.proofs.ProgramsStand.{no_fault, one_program}
 use Rattle.qk_words.specs.SettingsData.{SettingsData, AimData, whole, replayed, generated, IsAimInRange}
 use Rattle.qk_engine.specs.Generated.{generated_file}
 use Rattle.qk_engine.specs.Program.{how_many, is_failed, is_gave_up, status_of}
 use Rattle.qk_engine.specs.Reading.{IsLoaded}
 use Rattle.qk_engine.specs.Replay.{TokenReply, LeadsToFailure, property_reply, point_reply, point_of}
 use Rattle.qk_engine.specs.Settings.{settings_told}
-use Rattle.qk_engine.specs.Reply.{IsFault, IsProgram, FileReply, ReportReply, GeneratedReply, program_reply, file_run, ReplyOf, AimNames, AimTells, IsReply, IsRun, IsRunnable}
+use Rattle.qk_file.specs.Files.{FileReply, IsReply, IsRun}
+use Rattle.qk_engine.specs.Reply.{ReportReply, GeneratedReply, program_reply, file_run, ReplyOf, AimNames, AimTells, IsRunnable}
 use Rattle.qk_engine.proofs.GeneratedProgram.{generated_program}
-
--- a file that is too long has that fault, whatever its bytes are
-long_is_refused : (bytes : List ℕ) → 1048576 < length bytes → text_fault bytes ≡ Some (fault 1 start)
-long_is_refused bytes long = rw (lt-ltb 1048576 (length bytes) long) refl
-
-pub program_is_short : (bytes : List ℕ) (c : ProgramData) → IsProgram bytes c → length bytes < 1048577
-program_is_short bytes c program = let short = program.1.short in omega (arith, short)
-
--- the fault of the front of a long file is that of the file
-long_fault : (bytes : List ℕ) (r : Refusal) → 1048576 < length bytes → length (take 1048577 bytes) ≡ 1048577 → IsFault (take 1048577 bytes) r → IsFault bytes r
-long_fault bytes r long front said = elim said as (λ _. IsFault bytes r) [
-  | inl e ↦ inl (long_is_refused bytes long ∙ sym (long_is_refused (take 1048577 bytes) (omega (arith, front))) ∙ e)
-  | inr trees ↦ let short = trees.1.short in absurd (omega (arith, short, front))
-]
-
-pub program_has_no_fault : (bytes : List ℕ) (c : ProgramData) → IsProgram bytes c → (r : Refusal) → IsFault bytes r → ⊥
-program_has_no_fault bytes c program r said = elim said as (λ _. ⊥) [
-  | inl e ↦ let both = sym (spelled_has_no_fault bytes program.0 program.1) ∙ e in cc
-  | inr trees ↦
-      let same : trees.0 ≡ program.0 = one_spelling bytes trees.0 program.0 trees.1 program.1 in
-      let both = sym (ap type_fault same ∙ no_fault program.0 c program.2) ∙ trees.2 in cc
-]
-
-pub programs_are_one : (bytes : List ℕ) (c d : ProgramData) → IsProgram bytes c → IsProgram bytes d → c ≡ d
-programs_are_one bytes c d one other =
-    let same : one.0 ≡ other.0 = one_spelling bytes one.0 other.0 one.1 other.1 in
-    one_program other.0 c d (subst (λ (ts : PlainTrees). StandsFor ts c) same one.2) other.2
-
-module _ (answers : ProgramData → Status → List ℕ → Type 0) where
-  -- what is said of the front that was loaded holds of the whole file
-  pub front_says : (bytes : List ℕ) (s : Status) (text : List ℕ) → FileReply answers (take 1048577 bytes) s text → FileReply answers bytes s text
-  front_says bytes s text said = elim (cases_lt (length bytes) 1048577) as (λ _. FileReply answers bytes s text) [
-    | inl less ↦ subst (λ (b : List ℕ). FileReply answers b s text) (take_all 1048577 bytes (omega (arith, less))) said
-    | inr long ↦
-        let front : length (take 1048577 bytes) ≡ 1048577 = length-take-le 1048577 bytes long in
-        elim said as (λ _. FileReply answers bytes s text) [
-          | inl refused ↦ inl (refused.0, long_fault bytes refused.0 (omega (arith, long)) front refused.1, refused.2)
-          | inr program ↦ let short = program_is_short (take 1048577 bytes) program.0 program.1 in absurd (omega (arith, short, front))
-        ]
-  ]
-
-  -- a reply that tells of a run is that to a program
-  pub run_is_of_program : (bytes : List ℕ) (s : Status) (text : List ℕ) → IsRun s → FileReply answers bytes s text → length bytes < 1048577
-  run_is_of_program bytes s text run said = elim said as (λ _. length bytes < 1048577) [
-    | inl refused ↦ elim run as (λ _. length bytes < 1048577) [ inl e ↦ let both = sym e ∙ refused.2.0 in cc | inr e ↦ let both = sym e ∙ refused.2.0 in cc ]
-    | inr program ↦ program_is_short bytes program.0 program.1
-  ]
-
-  -- the reply to the bytes of a program is that to the program: they have no fault, and no other program
-  pub program_is_answered : (bytes : List ℕ) (s : Status) (text : List ℕ) (c : ProgramData) → IsProgram bytes c → FileReply answers bytes s text → answers c s text
-  program_is_answered bytes s text c program said = elim said as (λ _. answers c s text) [
-    | inl refused ↦ absurd (program_has_no_fault bytes c program refused.0 refused.1)
-    | inr other ↦ subst (λ (d : ProgramData). answers d s text) (programs_are_one bytes other.0 c other.1 program) other.2
-  ]
+use Rattle.qk_file.proofs.FileLaws.{front_says, program_is_answered, run_is_of_program, run_is_reply}
 
 run_or_not : (b : Bool) → IsRun (if b then status.AllPassed else status.SomeFailed)
 run_or_not true = inl refl
 run_or_not false = inr refl
-
-run_is_reply : (s : Status) → IsRun s → IsReply s
-run_is_reply s run = elim run as (λ _. IsReply s) [ inl e ↦ subst IsReply (sym e) tt | inr e ↦ subst IsReply (sym e) tt ]
 
 status_is_run : (s : ReportSettings) (c : ProgramData) → IsRun (status_of s c)
 status_is_run s c = run_or_not (nat_eq (how_many is_failed s c + how_many is_gave_up s c) 0)

@@ -2,8 +2,6 @@
 use Rattle.std.proofs.Common.{◌≡◌, ◌∙◌, ℕ, zero, suc, ◌+◌, Bool, true, false, List, [], ◌∷◌, ◌++◌, length, position, get_or, slice_index_or, Option, Some, None, slice_get, refl, sym, subst, inl, inr}
 use Rattle.std.specs.Prelude.{codes, is_some, unwrap_or}
 use Rattle.std.proofs.lemmas.List.Quantifiers.{position-Some}
-use Rattle.qk_base.specs.declared.place.Refusal.{Refusal}
-use Rattle.qk_base.specs.declared.status.Status.{Status}
 use Rattle.qk_base.specs.declared.status.Status.TheVariants as status
 use Rattle.qk_base.specs.declared.outcome.Cause.TheVariants.{False}
 use Rattle.qk_command.specs.Drawing.{DrawnValues}
@@ -25,12 +23,6 @@ use Rattle.qk_report.specs.TokenReader.{token_in}
 use Rattle.qk_report.proofs.TokenReading.{token_whole, token_sound}
 use Rattle.qk_schedule.specs.declared.finish.Finish.{Finish}
 use Rattle.qk_schedule.specs.declared.finish.Finish.TheVariants as finish
-use Rattle.qk_syntax.specs.PlainTrees.{PlainTrees}
-use Rattle.qk_syntax.specs.Spelling.{Spells}
-use Rattle.qk_syntax.specs.TextFault.{text_fault}
-use Rattle.qk_syntax.proofs.TextRead.{faultless_is_spelled}
-use Rattle.qk_types.specs.Elaboration.{type_fault}
-use Rattle.qk_wellformed.proofs.ProgramsStand.{faultless}
 use Rattle.qk_words.specs.declared.options.OptionName.TheVariants.{Seed, Success, Ratio, MaxSize, Fuel, Workers, Window, Shrinks, Replay, Generate}
 use Rattle.qk_words.specs.declared.options.FlagName.TheVariants.{Greedy, Work}
 use Rattle.qk_words.specs.Accepted.{IsSpelling, is_one}
@@ -43,11 +35,9 @@ use Rattle.qk_words.specs.Walk.{is_good, nothing as nothing_seen}
 use Rattle.qk_engine.specs.Generated.{generated_text}
 use Rattle.qk_engine.specs.Program.{AreBlocks, status_of, totals_line}
 use Rattle.qk_engine.specs.Replay.{property_reply, point_reply, point_of, bad_token, no_property}
-use Rattle.qk_engine.specs.Reply.{FileReply, ReplyOf, Replies, program_reply, file_run, refusal, usage}
+use Rattle.qk_engine.specs.Reply.{ReplyOf, Replies, program_reply, file_run, usage}
 use Rattle.qk_engine.specs.Settings.{settings_told}
-
-abbrev Some_of : (Status → List ℕ → Type 0) → Type 0
-Some_of answers = (s : Status) × (text : List ℕ) × answers s text
+use Rattle.qk_file.proofs.FileLaws.{Some_of, some_of_file}
 
 module _ {P : Type 0} (children : P → List P) (failing : P → Bool) where
   nth_is : (d : P) (xs : List P) (k : ℕ) → nth d xs k ≡ get_or xs k d
@@ -127,19 +117,8 @@ some_to_program (whole name) r c = let blocks = some_blocks r c 0 c.properties i
 some_to_program (replayed token name) r c = some_property c token (slice_get c.properties token.property)
 some_to_program (generated n) r c = (status_of r c, generated_text r n c, (refl, refl))
 
-some_of_trees : (answers : ProgramData → Status → List ℕ → Type 0) (bytes : List ℕ) (trees : PlainTrees) → Spells bytes trees → ((c : ProgramData) → Some_of (answers c)) → (o : Option Refusal) → type_fault trees ≡ o → Some_of (FileReply answers bytes)
-some_of_trees answers bytes trees spells each (Some r) e = (status.Refused, refusal r, inl (r, inr (trees, spells, e), (refl, refl)))
-some_of_trees answers bytes trees spells each None e =
-    let program = faultless trees e in
-    let said = each program.0 in
-    (said.0, said.1, inr (program.0, (trees, spells, program.1), said.2))
-
-some_of_file : (answers : ProgramData → Status → List ℕ → Type 0) (bytes : List ℕ) → ((c : ProgramData) → Some_of (answers c)) → (o : Option Refusal) → text_fault bytes ≡ o → Some_of (FileReply answers bytes)
-some_of_file answers bytes each (Some r) e = (status.Refused, refusal r, inl (r, inl e, (refl, refl)))
-some_of_file answers bytes each None e = let trees = faultless_is_spelled bytes e in some_of_trees answers bytes trees.0 trees.1 each (type_fault trees.0) refl
-
 some_to_settings : (d : SettingsData) (bytes : List ℕ) → Some_of (ReplyOf d bytes)
-some_to_settings d bytes = some_of_file (program_reply d.aim (settings_told d)) (file_run d.aim bytes) (some_to_program d.aim (settings_told d)) (text_fault (file_run d.aim bytes)) refl
+some_to_settings d bytes = some_of_file (program_reply d.aim (settings_told d)) (file_run d.aim bytes) (some_to_program d.aim (settings_told d))
 
 -- the settings of parts, but for their aim
 with_aim : List Part → AimData → SettingsData

@@ -5,7 +5,7 @@ use Rattle.qk_core.specs.Properties.{PropertyData}
 use Rattle.qk_value.specs.Kinds.{KindData}
 use Rattle.qk_report.specs.Block.{FailureData, failed_block}
 use Rattle.qk_report.specs.Lines.{work_line}
-use Rattle.qk_engine.specs.Reply.{IsProgram}
+use Rattle.qk_file.specs.Files.{IsProgram}
 
 -- failures of one attempt of one run: they differ in the cause, in the values and in how these were found
 pub record AreOfOneAttempt (f g : FailureData) : Type 0 where

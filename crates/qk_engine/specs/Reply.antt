@@ -1,16 +1,11 @@
 -- What a run answers: a status and a text for the words and the bytes of their file.
-use Rattle.std.specs.Prelude.{◌≡◌, ◌⊎◌, ℕ, List, ◌++◌, Option, Some, codes, ⊤}
-use Rattle.qk_base.specs.declared.place.Refusal.{Refusal}
+use Rattle.std.specs.Prelude.{◌≡◌, ◌⊎◌, ℕ, List, Option, Some, codes, ⊤}
 use Rattle.qk_base.specs.declared.status.Status.{Status}
 use Rattle.qk_base.specs.declared.status.Status.TheVariants as status
 use Rattle.qk_core.specs.Program.{ProgramData}
+use Rattle.qk_file.specs.Files.{FileReply, IsProgram}
 use Rattle.qk_property.specs.Settings.{ReportSettings}
-use Rattle.qk_report.specs.Lines.{line, named}
-use Rattle.qk_syntax.specs.PlainTrees.{PlainTrees}
-use Rattle.qk_syntax.specs.Spelling.{Spells}
-use Rattle.qk_syntax.specs.TextFault.{text_fault}
-use Rattle.qk_types.specs.Elaboration.{type_fault}
-use Rattle.qk_wellformed.specs.StandsFor.{StandsFor}
+use Rattle.qk_report.specs.Lines.{line}
 use Rattle.qk_words.specs.Accepted.{IsAccepted}
 use Rattle.qk_words.specs.Given.{AreSettings, HasBadToken}
 use Rattle.qk_words.specs.SettingsData.{SettingsData, AimData, whole, replayed, generated}
@@ -22,25 +17,6 @@ use Rattle.qk_engine.specs.Settings.{settings_told}
 -- words that are not accepted give the usage line
 abbrev pub usage : List ℕ
 usage = line (codes "usage: quicker [options] FILE")
-
--- the refusal of a file: a code and a place
-abbrev pub refusal : Refusal → List ℕ
-refusal r = line (named (codes "refused ") r.code ++ named (codes " at ") r.place.line ++ named (codes ":") r.place.column)
-
--- the first fault of a file: that of its text, or the first check that does not hold of its trees
-abbrev pub IsFault : List ℕ → Refusal → Type 0
-IsFault bytes r = (text_fault bytes ≡ Some r) ⊎ ((trees : PlainTrees) × Spells bytes trees × (type_fault trees ≡ Some r))
-
--- the program of a file: its bytes spell trees that stand for it
-abbrev pub IsProgram : List ℕ → ProgramData → Type 0
-IsProgram bytes c = (trees : PlainTrees) × Spells bytes trees × StandsFor trees c
-
-abbrev pub Refuses : Refusal → Status → List ℕ → Type 0
-Refuses r s text = (s ≡ status.Refused) × (text ≡ refusal r)
-
--- the answers to a file: the refusal of its fault, or those to its program
-abbrev pub FileReply : (ProgramData → Status → List ℕ → Type 0) → List ℕ → Status → List ℕ → Type 0
-FileReply answers bytes s text = ((r : Refusal) × IsFault bytes r × Refuses r s text) ⊎ ((c : ProgramData) × IsProgram bytes c × answers c s text)
 
 abbrev pub ReportReply : ReportSettings → ProgramData → Status → List ℕ → Type 0
 ReportReply s c status text = (status ≡ status_of s c) × IsReport s c text
@@ -97,17 +73,3 @@ IsRunnable (generated n) bytes = ⊤
 -- the words are accepted, and no refusal applies
 abbrev pub MayRun : List (List ℕ) → List ℕ → Type 0
 MayRun words bytes = (d : SettingsData) × AreSettings words d × IsRunnable d.aim bytes
-
--- the answers with a text
-abbrev pub IsReply : Status → Type 0
-IsReply status.AllPassed = ⊤
-IsReply status.SomeFailed = ⊤
-IsReply status.Usage = ⊤
-IsReply status.Refused = ⊤
-IsReply status.ReadFault = ⊥
-IsReply status.WriteFault = ⊥
-IsReply status.Memory = ⊥
-
--- the answers that tell that every property was run, or that a failure was replayed
-abbrev pub IsRun : Status → Type 0
-IsRun s = (s ≡ status.AllPassed) ⊎ (s ≡ status.SomeFailed)

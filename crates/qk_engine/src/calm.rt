@@ -2,12 +2,13 @@
 ghost use Rattle.std.specs.Prelude.{◌≡◌, ◌⊎◌, ℕ, List, Some, map, string_bytes, IfOk, IfErr};
 ghost use Rattle.qk_base.specs.Calm.{content, told};
 ghost use Rattle.qk_base.specs.Gains.{Gains};
-ghost use Rattle.qk_engine.specs.Reply.{AimTells, IsReply, Replies, ReplyOf, Tells};
+ghost use Rattle.qk_file.specs.Files.{IsReply};
+ghost use Rattle.qk_engine.specs.Reply.{AimTells, Replies, ReplyOf, Tells};
 ghost use Rattle.qk_words.specs.SettingsData.{settings_in, AreInRange};
 
-use crate::made::Made;
 use crate::top::{run, run_into, run_with};
 use qk_base::{CalmLibrary, CalmSink, Gate, Status};
+use qk_file::Made;
 use qk_words::Settings;
 use std::alloc::Global;
 use std::thread::Threads;

@@ -6,9 +6,6 @@ mod calm;
 mod generating;
 mod laws;
 mod loading;
-mod made;
-mod reading;
-mod refusing;
 mod replaying;
 mod replying;
 mod settings;
@@ -21,6 +18,6 @@ pub use laws::{
     greedy_decides_only_shrinks, greedy_is_for_files, replies_are_one, replies_exist,
     window_decides_only_work_lines, window_decides_work_lines, workers_decide_nothing,
 };
-pub use made::Made;
+pub use qk_file::Made;
 pub use qk_words::{Aim, Settings, WordsFault, read_words};
 pub use top::{run, run_into, run_with};

@@ -3,9 +3,9 @@ ghost use Rattle.std.specs.Prelude.{◌≡◌, ◌≤◌, IfOk, OnOk, Some, slic
 ghost use Rattle.qk_engine.specs.Replay.{TokenReply, bad_token, no_property, point_of, point_reply, property_reply};
 ghost use Rattle.qk_property.specs.Points.{IsSmallPoint};
 
-use crate::made::Made;
 use qk_base::{Bytes, Cause, Memory, Seq, Status};
 use qk_core::{Core, Property};
+use qk_file::Made;
 use qk_property::{Point, cause_of_point, replay};
 use qk_report::{Failure, Token, put, put_replayed_block};
 use std::alloc::Global;

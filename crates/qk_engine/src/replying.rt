@@ -2,22 +2,21 @@
 ghost use Rattle.std.specs.Prelude.{◌≡◌, ◌+◌, ◌++◌, IfOk, OnOk, length, nat_eq, if◌then◌else◌};
 ghost use Rattle.qk_base.specs.declared.status.Status.TheVariants as status;
 ghost use Rattle.qk_engine.specs.Program.{status_of as status_of_program, totals_line};
-ghost use Rattle.qk_engine.specs.Reply.{FileReply, GeneratedReply, ReportReply, program_reply, refusal as refusal_of, usage};
+ghost use Rattle.qk_file.specs.Files.{FileReply};
+ghost use Rattle.qk_engine.specs.Reply.{GeneratedReply, ReportReply, program_reply, usage};
 ghost use Rattle.qk_engine.specs.Settings.{settings_told};
 ghost use Rattle.qk_engine.specs.Totals.{AreTotals};
 ghost use Rattle.qk_property.specs.Settings.{AreInRange, report_settings};
 ghost use Rattle.qk_words.specs.SettingsData.{settings_in, AreInRange as AreSettingsInRange};
 
 use crate::blocks::put_blocks;
-use crate::made::Made;
-use crate::reading::read_program;
-use crate::refusing::put_refusal;
 use crate::replaying::token_reply;
 use crate::settings::run_settings;
 use crate::summing::sum_properties;
 use crate::totals::Totals;
-use qk_base::{Bytes, Gate, Memory, Refusal, Status};
+use qk_base::{Bytes, Gate, Memory, Status};
 use qk_core::Core;
+use qk_file::{Made, read_program, refused_file};
 use qk_property::RunSettings;
 use qk_report::{put, put_last_line, put_named};
 use qk_words::{Aim, Settings};
@@ -48,21 +47,9 @@ pub fn bytes_reply<R: Threads + Sync, G: Gate>(
     ensures { IfOk result (λ made. FileReply (program_reply (settings_in settings.now).aim (settings_told (settings_in settings.now))) bytes.now made.status made.text.items) }
 {
     match read_program(alloc, bytes)? {
-        Err(refusal) => refusal_reply(alloc, refusal),
+        Err(refusal) => refused_file(alloc, refusal),
         Ok(core) => reply_to_program(rt, alloc, gate, settings, &core),
     }
-}
-
-// The reply to a file that is refused.
-fn refusal_reply(alloc: Global, refusal: Refusal) -> Result<Made, Memory>
-    ensures { IfOk result (λ made. (made.status ≡ status.Refused) × (made.text.items ≡ refusal_of refusal)) }
-{
-    let mut text = Bytes::make(alloc);
-    put_refusal(alloc, &mut text, refusal)?;
-    Ok(Made {
-        status: Status::Refused,
-        text,
-    })
 }
 
 // The reply to a program.

@@ -3,15 +3,16 @@ ghost use Rattle.std.specs.Prelude.{◌≡◌, ◌⊎◌, ℕ, List, [], Some, O
 ghost use Rattle.qk_base.specs.Faults.{HasRisen};
 ghost use Rattle.qk_base.specs.Gains.{Gains};
 ghost use Rattle.qk_base.specs.declared.status.Status.{Status as Answer};
-ghost use Rattle.qk_engine.specs.Reply.{AimNames, AimTells, IsReply, IsRun, IsRunnable, MayRun, Names, Replies, ReplyOf, Tells};
+ghost use Rattle.qk_file.specs.Files.{IsReply, IsRun};
+ghost use Rattle.qk_engine.specs.Reply.{AimNames, AimTells, IsRunnable, MayRun, Names, Replies, ReplyOf, Tells};
 ghost use Rattle.qk_words.specs.Given.{AreSettings};
 ghost use Rattle.qk_words.specs.SettingsData.{settings_in, AreInRange};
 
 use crate::loading::load_aim;
-use crate::made::Made;
 use crate::replaying::refused_token;
 use crate::replying::{bytes_reply, usage_reply};
 use qk_base::{Gate, Library, Sink, Status, store};
+use qk_file::Made;
 use qk_words::{Settings, WordsFault, read_words};
 use std::alloc::Global;
 use std::thread::Threads;

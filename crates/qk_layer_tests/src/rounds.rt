@@ -4,13 +4,10 @@ ghost use Rattle.qk_base.specs.declared.outcome.Verdict.TheVariants as verdicts;
 ghost use Rattle.qk_base.specs.declared.outcome.Cause.TheVariants as causes;
 
 use qk_base::{Bytes, Cause, Marks, Memory, OpenGate, Outcome, Seq, Tally, Verdict};
-use qk_rounds::{Finish, Slots, Trial, Work, drive, round};
+use qk_rounds::{Finish, Slots, Trial, Work, drive, drive_freely, round};
 use qk_schedule::{Course, Limits, QuickCourse};
 use std::alloc::Global;
 use std::test::Fail;
-
-mod compared;
-mod plain;
 
 /// Attempts of size 1 are discarded, those of size 3 fail, all others pass.
 #[derive(Drop)]
@@ -91,18 +88,27 @@ const THIRTY: Work = Work {
     trials: 30,
 };
 
+const FAILED: Finish = Finish::Failed {
+    attempt: 13,
+    size: 3,
+    cause: Cause::False,
+};
+
+// Workers, a window, and the work of a run.
+const RUNS: [(u32, u32, Work); 5] = [
+    (1, 1, FOURTEEN),
+    (64, 1, FOURTEEN),
+    (1, 8, THIRTY),
+    (2, 8, THIRTY),
+    (64, 8, THIRTY),
+];
+
 #[test]
 fn runs_do_not_depend_on_workers(rt: HostRuntime) -> Result<(), Fail> {
-    for (workers, window, work) in [
-        (1, 1, FOURTEEN),
-        (64, 1, FOURTEEN),
-        (1, 8, THIRTY),
-        (2, 8, THIRTY),
-        (64, 8, THIRTY),
-    ] {
+    let course = QuickCourse::make(USUAL);
+    for (workers, window, work) in RUNS {
         let mut trial = Sizes { first: 0, count: 0 };
         let mut tally = Added { count: 0 };
-        let course = QuickCourse::make(USUAL);
         let ended = drive(
             &rt,
             rt.alloc(),
@@ -113,19 +119,36 @@ fn runs_do_not_depend_on_workers(rt: HostRuntime) -> Result<(), Fail> {
             workers,
             window,
         )?;
-        let cause = Cause::False;
-        assert_eq!(rt;
-            ended.finish,
-            Finish::Failed {
-                attempt: 13,
-                size: 3,
-                cause
-            }
-        );
-        assert_eq!(rt; ended.state.successes, 3);
-        assert_eq!(rt; ended.state.discards, 10);
+        assert_eq!(rt; ended.finish, FAILED);
         assert_eq!(rt; ended.work, work, "{workers} workers, window {window}");
-        assert_eq!(rt; tally.count, 13);
+        assert_eq!(rt;
+            (ended.state.successes, ended.state.discards, tally.count),
+            (3, 10, 13)
+        );
+    }
+    Ok(())
+}
+
+#[test]
+fn free_runs_do_not_depend_on_workers(rt: HostRuntime) -> Result<(), Fail> {
+    let course = QuickCourse::make(USUAL);
+    for workers in [1, 2, 64] {
+        let mut trial = Sizes { first: 0, count: 0 };
+        let mut tally = Added { count: 0 };
+        let reached = drive_freely(
+            &rt,
+            rt.alloc(),
+            &OpenGate,
+            &course,
+            &mut trial,
+            &mut tally,
+            workers,
+        )?;
+        assert_eq!(rt; reached.finish, FAILED);
+        assert_eq!(rt;
+            (reached.state.successes, reached.state.discards, tally.count),
+            (3, 10, 13)
+        );
     }
     Ok(())
 }

@@ -23,7 +23,7 @@ mod value_lines;
 
 pub use block::{put_failed_block, put_gave_up_block, put_passed_block, put_replayed_block};
 pub use failure::Failure;
-pub use lines::put_last_line;
+pub use lines::{put_cause_line, put_last_line};
 pub use numerals::number_of;
 pub use property_block::{property_text, put_property_block};
 pub use qk_schedule::Finish;
@@ -33,3 +33,4 @@ pub use token_laws::tokens_have_one_text;
 pub use token_parsing::TokenFault;
 pub use tokens::Token;
 pub use told::Told;
+pub use value_lines::put_value_lines;

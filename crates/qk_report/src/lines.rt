@@ -61,7 +61,7 @@ fn drawing_text(drawing: bool) -> &'static str
 }
 
 /// Adds the line of the cause.
-pub(crate) fn put_cause_line(text: &mut Bytes, cause: Cause, drawing: bool) -> Result<(), Memory>
+pub fn put_cause_line(text: &mut Bytes, cause: Cause, drawing: bool) -> Result<(), Memory>
     ensures { OnOk result (text.new.items ≡ text.old.items ++ cause_line cause drawing) }
 {
     put(text, "cause: ")?;

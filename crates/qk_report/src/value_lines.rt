@@ -10,7 +10,7 @@ use qk_value::{Kinds, Value};
 use std::alloc::Global;
 
 /// Adds a line for each value, with the name of its binder.
-pub(crate) fn put_value_lines(
+pub fn put_value_lines(
     alloc: Global,
     text: &mut Bytes,
     kinds: &Kinds,

@@ -1,6 +1,6 @@
 //! Programs at fault, each with the first fault in the written order of checks, worked out by hand; and two without fault.
 
-use crate::runs::{CALM, answers, written};
+use crate::runs::{says, written};
 use qk_base::OpenGate;
 use std::process::Abort;
 use std::test::Fail;
@@ -79,6 +79,8 @@ no fault | (prop p (forall ((x int)) (check true) (label true)))
 23 at 1:9 | (prop p (forall ((x int)) (check true) (label a) (label a) (label a) (label a) (label a) (label a) (label a) (label a) (label a) (label a) (label a) (label a) (label a) (label a) (label a) (label a) (label a)))
 23 at 1:9 | (prop p (forall ((x int)) (given true)))
 no fault | (prop p (forall ((x int)) (given (< 0 x)) (check (= x x)) (collect x) (tabulate a x) (cover 0 (< x 5) b)))
+no fault | (fun f ((x Int)) (List Int) (nil Int)) (prop p (forall ((x int (shrink-with f))) (given true) (check true) (cover 5 true c)))
+no fault | (gen g ((s Bool)) Int int) (fun pre ((s Bool) (c Int)) Bool s) (fun step ((r Int) (c Int)) Int r) (fun post ((s Bool) (c Int) (r Int)) Bool s) (model m (command Int g) (abstract Bool true pre pre) (system Int 0 step post)) (prop p (forall ((x (commands m))) (check-runs x)))
 20 at 1:13 | (type T (A) B)
 23 at 1:9 | (type T (A a b c d e f g h i j k l m n o p q))
 22 at 1:12 | (type T (A Foo)) (prop p)
@@ -286,37 +288,21 @@ fn answers_file<R: Threads + Sync + Abort + AllocGlobal>(
 ) -> Result<(), Fail> {
     let file = format!(in rt.alloc(); "{file}{ended}")?;
     if answer == "passed" {
-        return answers(rt, ["f"].as_slice(), file.as_str(), &CALM, 0, PASSED);
+        return says(rt, "f", file.as_str(), 0, PASSED);
     }
     if answer == "no fault" {
-        return runs_file(rt, file.as_str());
+        let said = written(rt, "f", file.as_str(), &OpenGate)?;
+        assert!(rt; said.as_str().ends_with("status 0"), "{said}");
+        return Ok(());
     }
     let text = format!(in rt.alloc(); "refused {answer}\n")?;
-    answers(rt, ["f"].as_slice(), file.as_str(), &CALM, 3, text.as_str())
-}
-
-fn runs_file<R: Threads + Sync + Abort + AllocGlobal>(rt: &R, file: &str) -> Result<(), Fail> {
-    let said = written(rt, "f", file, &OpenGate)?;
-    assert!(rt; said.as_str().ends_with("status 0"), "{said}");
-    Ok(())
+    says(rt, "f", file.as_str(), 3, text.as_str())
 }
 
 #[test]
-fn whole_programs(rt: HostRuntime) -> Result<(), Fail> {
-    answers_rows(&rt, WHOLE, "")
-}
-
-#[test]
-fn before_a_property(rt: HostRuntime) -> Result<(), Fail> {
-    answers_rows(&rt, BEFORE, GOOD)
-}
-
-#[test]
-fn models(rt: HostRuntime) -> Result<(), Fail> {
-    answers_rows(&rt, MODELS, USES)
-}
-
-#[test]
-fn realistic_program(rt: HostRuntime) -> Result<(), Fail> {
+fn programs(rt: HostRuntime) -> Result<(), Fail> {
+    answers_rows(&rt, WHOLE, "")?;
+    answers_rows(&rt, BEFORE, GOOD)?;
+    answers_rows(&rt, MODELS, USES)?;
     answers_rows(&rt, NO_FAULT, REALISTIC)
 }

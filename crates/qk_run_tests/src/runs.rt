@@ -7,12 +7,10 @@ use std::test::Fail;
 use std::thread::Threads;
 
 mod calm;
-mod fuel;
+mod failures;
 mod generated;
-mod hostile;
 mod marks;
 mod replays;
-mod shrinks;
 mod workers;
 
 // a file of 52 bytes, and its report of 177 bytes
@@ -28,57 +26,22 @@ replay: q1:0:0:0:0:100000:-
 properties: 1, passed 0, failed 1, gave up 0
 ";
 
-// what a run is to meet: the most bytes of a read and of a write, and the call of each that fails, if one does
-#[derive(Clone, Copy, Debug)]
-pub struct Setting {
-    most: usize,
-    read_fails: Option<u64>,
-    write_fails: Option<u64>,
+/// Words with blanks between them, a file, and the status and the text that the words give for it.
+pub type Row = (&'static str, &'static str, u8, &'static str);
+
+// The words, owned; an empty text has none.
+fn words_of<R: AllocGlobal>(rt: &R, words: &str) -> Result<Vec<String>, Fail> {
+    let mut owned = Vec::new(rt.alloc());
+    if words.is_empty() {
+        return Ok(owned);
+    }
+    for word in words.split(' ') {
+        owned.push(String::from_str(rt.alloc(), word)?)?;
+    }
+    Ok(owned)
 }
 
-pub const CALM: Setting = Setting {
-    most: 4096,
-    read_fails: None,
-    write_fails: None,
-};
-
-// Runs the words over a library that holds the file `f`.
-pub fn answers<R: Threads + Sync + Abort + AllocGlobal>(
-    rt: &R,
-    words: &[&str],
-    file: &str,
-    setting: &Setting,
-    status: u8,
-    text: &str,
-) -> Result<(), Fail> {
-    let alloc = rt.alloc();
-    let mut library = MemLibrary::make(alloc, setting.most.max(1));
-    library.add(alloc, "f", file.as_bytes())?;
-    if let Some(call) = setting.read_fails {
-        library.fail_at(call)?;
-    }
-    let mut sink = MemSink::make(alloc, setting.most.max(1), 20_000)?;
-    if let Some(call) = setting.write_fails {
-        sink.fail_at(call)?;
-    }
-    let mut owned = Vec::new(alloc);
-    for word in words {
-        owned.push(String::from_str(alloc, word)?)?;
-    }
-    let answer = run(
-        rt,
-        alloc,
-        owned.as_slice(),
-        &mut library,
-        &mut sink,
-        &OpenGate,
-    );
-    assert_eq!(rt; answer.number(), status, "{file}");
-    assert_eq!(rt; sink.bytes(), text.as_bytes(), "{file}");
-    Ok(())
-}
-
-// What is written for words with blanks between them, with the status behind it.
+// What is written for the words, over a library that holds the file `f`, with the status behind it.
 pub fn written<R: Threads + Sync + Abort + AllocGlobal, G: Gate>(
     rt: &R,
     words: &str,
@@ -89,10 +52,7 @@ pub fn written<R: Threads + Sync + Abort + AllocGlobal, G: Gate>(
     let mut library = MemLibrary::make(alloc, 4096);
     library.add(alloc, "f", file.as_bytes())?;
     let mut sink = MemSink::make(alloc, 4096, 20_000)?;
-    let mut owned = Vec::new(alloc);
-    for word in words.split(' ') {
-        owned.push(String::from_str(alloc, word)?)?;
-    }
+    let owned = words_of(rt, words)?;
     let answer = run(rt, alloc, owned.as_slice(), &mut library, &mut sink, gate);
     let text = str::from_utf8(sink.bytes())?;
     Ok(format!(in alloc; "{text}status {}", answer.number())?)
@@ -112,6 +72,13 @@ pub fn says<R: Threads + Sync + Abort + AllocGlobal>(
     Ok(())
 }
 
+pub fn all_say<R: Threads + Sync + Abort + AllocGlobal>(rt: &R, rows: &[Row]) -> Result<(), Fail> {
+    for (words, file, status, text) in rows {
+        says(rt, words, file, *status, text)?;
+    }
+    Ok(())
+}
+
 const PASSED: &str = "b: passed 100 tests, 0 discarded
 properties: 1, passed 1, failed 0, gave up 0
 ";
@@ -123,85 +90,107 @@ const USAGE: &str = "usage: quicker [options] FILE\n";
 const TWO_BLANKS: &str = "(prop  b (forall ((x (choose 0 0))) (check (< x 1))))";
 
 // Each file with its status and its text.
-const FILES: [(&str, u8, &str); 17] = [
-    (FAILING, 1, FAILING_REPORT),
+const FILES: [Row; 19] = [
+    ("f", FAILING, 1, FAILING_REPORT),
     (
+        "f",
         "(prop b (forall ((x (choose 0 0))) (check (< x 1))))",
         0,
         PASSED,
     ),
     (
+        "f",
         "(prop b (forall ((x (choose 0 0))) (check (< x 1))))\n",
         0,
         PASSED,
     ),
-    (TWO_BLANKS, 0, PASSED),
+    ("f", TWO_BLANKS, 0, PASSED),
     (
+        "f",
         "; a comment with ) and \u{e9}\n(prop b(forall((x(choose -0 00)))\r\n\t(check(< x 1))));",
         0,
         PASSED,
     ),
     (
+        "f",
         "(prop b (forall ((x (choose -9223372036854775808 -009223372036854775808))) (check (< x 1))))",
         0,
         PASSED,
     ),
     (
+        "f",
         "(prop Bb (forall ((y (choose 0 0))) (check (< y 1))))",
         0,
         "Bb: passed 100 tests, 0 discarded\nproperties: 1, passed 1, failed 0, gave up 0\n",
     ),
-    ("", 3, NO_PROPERTY),
-    ("(prop a))", 3, "refused 3 at 1:9\n"),
-    ("(prop a", 3, "refused 4 at 1:1\n"),
+    ("f", "", 3, NO_PROPERTY),
+    ("f", "(prop a))", 3, "refused 3 at 1:9\n"),
+    ("f", "(prop a", 3, "refused 4 at 1:1\n"),
     (
+        "f",
         "(prop a (forall ((x (choose 0 9223372036854775808))) (check true)))",
         3,
         "refused 6 at 1:31\n",
     ),
-    (")\"", 3, "refused 3 at 1:1\n"),
-    ("\")", 3, "refused 2 at 1:1\n"),
-    ("12a", 3, "refused 5 at 1:1\n"),
-    ("(a\n  -1x)", 3, "refused 5 at 2:3\n"),
+    ("f", ")\"", 3, "refused 3 at 1:1\n"),
+    ("f", "\")", 3, "refused 2 at 1:1\n"),
+    ("f", "12a", 3, "refused 5 at 1:1\n"),
+    ("f", "(a\n  -1x)", 3, "refused 5 at 2:3\n"),
     (
+        "f",
         "(fun f ((xs (List Int))) Int (match xs ((nil) 0)))\n(prop a (forall ((x (choose 0 0))) (check (< x 0))))",
         3,
         "refused 25 at 1:30\n",
     ),
     (
+        "f",
         "(fun f ((xs (List Int))) Int (match xs ((nil) 0)))",
         3,
         "refused 28 at 1:1\n",
     ),
+    (
+        "f",
+        "aaaaaaaaaaaaaaaaaaaaaaaaaaaaaaaaaaaaaaaaaaaaaaaaaaaaaaaaaaaaaaaa",
+        3,
+        "refused 20 at 1:1\n",
+    ),
+    (
+        "f",
+        "aaaaaaaaaaaaaaaaaaaaaaaaaaaaaaaaaaaaaaaaaaaaaaaaaaaaaaaaaaaaaaaaa",
+        3,
+        "refused 7 at 1:1\n",
+    ),
 ];
 
-#[test]
-fn files(rt: HostRuntime) -> Result<(), Fail> {
-    for (file, status, text) in FILES {
-        answers(&rt, ["f"].as_slice(), file, &CALM, status, text)?;
-    }
-    Ok(())
-}
-
 // Properties that pass or give up, and several in one file.
-const RUNS: [(&str, u8, &str); 5] = [
+const RUNS: [Row; 6] = [
     (
+        "f",
         "(prop a (forall ((x int)) (check true)))",
         0,
         "a: passed 100 tests, 0 discarded\nproperties: 1, passed 1, failed 0, gave up 0\n",
     ),
     (
+        "--success 3000 f",
+        "(prop a (forall ((x int)) (check true)))",
+        0,
+        "a: passed 3000 tests, 0 discarded\nproperties: 1, passed 1, failed 0, gave up 0\n",
+    ),
+    (
+        "f",
         "(prop a (forall ((x int)) (given false) (check true)))",
         1,
         "a: gave up after 0 tests, 1000 discarded\nproperties: 1, passed 0, failed 0, gave up 1\n",
     ),
     (
+        "f",
         "(prop a (forall ((x size)) (given (= (mod x 2) 0)) (check true)))",
         0,
         "a: passed 100 tests, 500 discarded\nproperties: 1, passed 1, failed 0, gave up 0\n",
     ),
-    (SEVERAL, 1, SEVERAL_REPORT),
+    ("f", SEVERAL, 1, SEVERAL_REPORT),
     (
+        "f",
         COUNTER,
         0,
         "a: passed 100 tests, 0 discarded\nproperties: 1, passed 1, failed 0, gave up 0\n",
@@ -242,90 +231,66 @@ replay: q1:3:0:0:0:100000:1
 properties: 4, passed 2, failed 2, gave up 0
 ";
 
+// Words that are not accepted, and a name that no file has.
+const WORDS: [Row; 7] = [
+    ("", FAILING, 2, USAGE),
+    (" ", FAILING, 2, USAGE),
+    ("-f", FAILING, 2, USAGE),
+    ("--help", FAILING, 2, USAGE),
+    ("f f", FAILING, 2, USAGE),
+    ("--fast f", FAILING, 2, USAGE),
+    ("g", FAILING, 4, ""),
+];
+
 #[test]
-fn runs(rt: HostRuntime) -> Result<(), Fail> {
-    for (file, status, text) in RUNS {
-        answers(&rt, ["f"].as_slice(), file, &CALM, status, text)?;
+fn files(rt: HostRuntime) -> Result<(), Fail> {
+    all_say(&rt, &FILES)?;
+    all_say(&rt, &RUNS)?;
+    all_say(&rt, &WORDS)
+}
+
+// Runs the file over a library and a sink whose calls move ten bytes, and one of which may fail.
+fn fails_at<R: Threads + Sync + Abort + AllocGlobal>(
+    rt: &R,
+    read: Option<u64>,
+    write: Option<u64>,
+    status: u8,
+    text: &str,
+) -> Result<(), Fail> {
+    let alloc = rt.alloc();
+    let mut library = MemLibrary::make(alloc, 10);
+    library.add(alloc, "f", FAILING.as_bytes())?;
+    if let Some(call) = read {
+        library.fail_at(call)?;
     }
+    let mut sink = MemSink::make(alloc, 10, 20_000)?;
+    if let Some(call) = write {
+        sink.fail_at(call)?;
+    }
+    let words = words_of(rt, "f")?;
+    let answer = run(
+        rt,
+        alloc,
+        words.as_slice(),
+        &mut library,
+        &mut sink,
+        &OpenGate,
+    );
+    assert_eq!(rt; answer.number(), status, "{read:?} {write:?}");
+    assert_eq!(rt; sink.bytes(), text.as_bytes(), "{read:?} {write:?}");
     Ok(())
 }
 
-#[test]
-fn long_files(rt: HostRuntime) -> Result<(), Fail> {
-    let f = ["f"].as_slice();
-    let mut blanks = String::new(rt.alloc());
-    for _ in 0..1_048_576u32 {
-        blanks.push(' ')?;
-    }
-    answers(&rt, f, blanks.as_str(), &CALM, 3, NO_PROPERTY)?;
-    blanks.push(' ')?;
-    answers(&rt, f, blanks.as_str(), &CALM, 3, "refused 1 at 1:1\n")?;
-    let mut opened = String::new(rt.alloc());
-    for _ in 0..200u32 {
-        opened.push('(')?;
-    }
-    answers(&rt, f, opened.as_str(), &CALM, 3, "refused 4 at 1:200\n")?;
-    opened.push('(')?;
-    answers(&rt, f, opened.as_str(), &CALM, 3, "refused 8 at 1:201\n")?;
-    let mut items = String::new(rt.alloc());
-    for _ in 0..1000u32 {
-        items.push_str("0 ")?;
-    }
-    answers(&rt, f, items.as_str(), &CALM, 3, "refused 20 at 1:1\n")?;
-    items.push_str("0 ")?;
-    answers(&rt, f, items.as_str(), &CALM, 3, "refused 9 at 1:2001\n")?;
-    let mut name = String::new(rt.alloc());
-    for _ in 0..64u32 {
-        name.push('a')?;
-    }
-    answers(&rt, f, name.as_str(), &CALM, 3, "refused 20 at 1:1\n")?;
-    name.push('a')?;
-    answers(&rt, f, name.as_str(), &CALM, 3, "refused 7 at 1:1\n")
-}
-
-#[test]
-fn words(rt: HostRuntime) -> Result<(), Fail> {
-    answers(&rt, [].as_slice(), FAILING, &CALM, 2, USAGE)?;
-    answers(&rt, ["-f"].as_slice(), FAILING, &CALM, 2, USAGE)?;
-    answers(&rt, ["--help"].as_slice(), FAILING, &CALM, 2, USAGE)?;
-    answers(&rt, [""].as_slice(), FAILING, &CALM, 2, USAGE)?;
-    answers(&rt, ["f", "f"].as_slice(), FAILING, &CALM, 2, USAGE)?;
-    answers(&rt, ["--fast", "f"].as_slice(), FAILING, &CALM, 2, USAGE)?;
-    answers(&rt, ["g"].as_slice(), FAILING, &CALM, 4, "")
-}
-
+// The opening, six reads that give bytes and one that gives none; and eighteen writes, the last of seven bytes.
 #[test]
 fn failing_devices(rt: HostRuntime) -> Result<(), Fail> {
-    let f = ["f"].as_slice();
-    // The opening, six reads that give bytes and one that gives none.
     for call in 1..9u64 {
-        let setting = Setting {
-            most: 10,
-            read_fails: Some(call),
-            write_fails: None,
-        };
-        answers(&rt, f, FAILING, &setting, 4, "")?;
+        fails_at(&rt, Some(call), None, 4, "")?;
     }
-    let late = Setting {
-        most: 10,
-        read_fails: Some(9),
-        write_fails: None,
-    };
-    answers(&rt, f, FAILING, &late, 1, FAILING_REPORT)?;
-    // Eighteen writes of ten bytes, the last of seven.
-    for call in 1..19usize {
-        let setting = Setting {
-            most: 10,
-            read_fails: None,
-            write_fails: Some(call as u64),
-        };
-        let written = FAILING_REPORT.get(..10 * (call - 1)).ok_or("short")?;
-        answers(&rt, f, FAILING, &setting, 5, written)?;
+    fails_at(&rt, Some(9), None, 1, FAILING_REPORT)?;
+    for call in 0..18usize {
+        let kept = FAILING_REPORT.get(..10 * call).ok_or("short")?;
+        fails_at(&rt, None, Some(call as u64 + 1), 5, kept)?;
     }
-    let late = Setting {
-        most: 10,
-        read_fails: None,
-        write_fails: Some(19),
-    };
-    answers(&rt, f, FAILING, &late, 1, FAILING_REPORT)
+    fails_at(&rt, None, Some(19), 1, FAILING_REPORT)
 }

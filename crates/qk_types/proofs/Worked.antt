@@ -6,7 +6,7 @@ use Rattle.qk_syntax.specs.Places.{start}
 use Rattle.qk_syntax.specs.PlainTrees.{PlainTrees}
 use Rattle.qk_syntax.specs.Reader.{free, scan, reading}
 use Rattle.qk_syntax.specs.Stacks.{bottom}
-use Rattle.qk_types.specs.Checks.{Checked, ◌>>=◌}
+use Rattle.qk_names.specs.Checks.{Checked, ◌>>=◌}
 use Rattle.qk_types.specs.Elaboration.{elaborated}
 
 abbrev Reply : Type 0

@@ -3,23 +3,23 @@ use Rattle.std.specs.Prelude.{ℕ, List, [], ◌∷◌, ◌++◌, length, Option
 use Rattle.qk_base.specs.declared.place.Place.{Place}
 use Rattle.qk_syntax.specs.PlainTrees.{PlainTree, number, name, list, PlainTrees, end, more}
 use Rattle.qk_value.specs.Types.{TypeData, int_type}
-use Rattle.qk_types.specs.Binders.{binders_at}
-use Rattle.qk_types.specs.Checks.{Checked, ◌>>=◌, ◌>>◌, refuse, check, place_of}
-use Rattle.qk_types.specs.Clauses.{no_clauses, clauses_at, closed_clauses}
+use Rattle.qk_clauses.specs.Binders.{binders_at}
+use Rattle.qk_names.specs.Checks.{Checked, ◌>>=◌, ◌>>◌, refuse, check, place_of}
+use Rattle.qk_clauses.specs.Clauses.{no_clauses, clauses_at, closed_clauses}
 use Rattle.qk_core.specs.Definitions.{FunctionData, UserGenData}
-use Rattle.qk_types.specs.Drawing.{draws_type, generator_of}
-use Rattle.qk_types.specs.Expressions.{expression}
-use Rattle.qk_types.specs.Generators.{generator}
-use Rattle.qk_types.specs.Headers.{HeadersData, SignatureData, ModelTypesData}
-use Rattle.qk_types.specs.Models.{model_at}
-use Rattle.qk_types.specs.Names.{item_of}
-use Rattle.qk_types.specs.Operators.{Tables, has_type, function_of}
+use Rattle.qk_generators.specs.Drawing.{draws_type, generator_of}
+use Rattle.qk_expressions.specs.Expressions.{expression}
+use Rattle.qk_generators.specs.Generators.{generator}
+use Rattle.qk_headers.specs.Headers.{HeadersData, SignatureData, ModelTypesData}
+use Rattle.qk_clauses.specs.Models.{model_at}
+use Rattle.qk_names.specs.Names.{item_of}
+use Rattle.qk_typing.specs.Operators.{Tables, has_type, function_of}
 use Rattle.qk_core.specs.Program.{ProgramData}
 use Rattle.qk_core.specs.Properties.{PropertyData}
-use Rattle.qk_types.specs.Reserved.{Word}
-use Rattle.qk_types.specs.Scopes.{types_of}
-use Rattle.qk_types.specs.declared.names.Item.{Item}
-use Rattle.qk_types.specs.declared.names.Item.TheVariants as items
+use Rattle.qk_names.specs.Reserved.{Word}
+use Rattle.qk_headers.specs.Scopes.{types_of}
+use Rattle.qk_names.specs.declared.names.Item.{Item}
+use Rattle.qk_names.specs.declared.names.Item.TheVariants as items
 
 abbrev pub function_body : Tables → Place → SignatureData → PlainTrees → Checked FunctionData
 function_body d p s (more params (more t (more body end))) = do

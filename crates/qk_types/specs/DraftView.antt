@@ -4,9 +4,9 @@ use Rattle.qk_base.specs.declared.place.Place.{Place}
 use Rattle.qk_value.specs.Kinds.{KindData}
 use Rattle.qk_core.specs.Program.{ProgramData}
 use Rattle.qk_core.specs.Properties.{BinderData, PropertyData}
-use Rattle.qk_types.specs.Checks.{Checked, ◌>>=◌}
-use Rattle.qk_types.specs.Clauses.{Clauses, closed_clauses}
-use Rattle.qk_types.specs.Reserved.{Word}
+use Rattle.qk_names.specs.Checks.{Checked, ◌>>=◌}
+use Rattle.qk_clauses.specs.Clauses.{Clauses, closed_clauses}
+use Rattle.qk_names.specs.Reserved.{Word}
 use Rattle.qk_types.specs.declared.bodies.Draft.{Draft}
 
 -- the property of these binders and clauses, once no clause is left

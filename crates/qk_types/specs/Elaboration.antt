@@ -4,9 +4,9 @@ use Rattle.std.specs.Result.{result_err}
 use Rattle.qk_base.specs.declared.place.Refusal.{Refusal}
 use Rattle.qk_syntax.specs.PlainTrees.{PlainTrees}
 use Rattle.qk_types.specs.Bodies.{bodies_of}
-use Rattle.qk_types.specs.Checks.{Checked, ◌>>=◌}
-use Rattle.qk_types.specs.Headers.{headers_of}
-use Rattle.qk_types.specs.Names.{names_of}
+use Rattle.qk_names.specs.Checks.{Checked, ◌>>=◌}
+use Rattle.qk_headers.specs.Headers.{headers_of}
+use Rattle.qk_names.specs.Names.{names_of}
 use Rattle.qk_core.specs.Program.{ProgramData}
 
 abbrev pub elaborated : PlainTrees → Checked ProgramData

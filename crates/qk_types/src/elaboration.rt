@@ -6,11 +6,10 @@ ghost use Rattle.qk_types.specs.DraftView.{draft_in, size_of};
 ghost use Rattle.qk_types.specs.Elaboration.{elaborated};
 
 use crate::bodies::{Draft, bodies_of};
-use crate::headers::headers_of;
-use crate::naming::names_of;
-use crate::tables::{Headers, Tables};
 use qk_base::{Fault, Seq};
 use qk_core::Core;
+use qk_headers::{Headers, Tables, headers_of};
+use qk_names::names_of;
 use qk_syntax::Tree;
 use std::alloc::Global;
 

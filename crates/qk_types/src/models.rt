@@ -4,17 +4,18 @@ ghost use Rattle.qk_core.specs.ExprView.{view_expr};
 ghost use Rattle.qk_syntax.specs.PlainTrees.{list};
 ghost use Rattle.qk_syntax.specs.Refusals.{IfRefusal};
 ghost use Rattle.qk_syntax.specs.View.{view, views};
-ghost use Rattle.qk_types.specs.Models.{closed as closed_of, command_at as command_of, abstract_at as abstract_of, system_at as system_of, model_at as model_of};
+ghost use Rattle.qk_clauses.specs.Models.{closed as closed_of, command_at as command_of, abstract_at as abstract_of, system_at as system_of, model_at as model_of};
 ghost use Rattle.qk_types.specs.ModelView.{abstract_in, system_in};
-ghost use Rattle.qk_types.specs.TablesView.{tables_in};
+ghost use Rattle.qk_typing.specs.TablesView.{tables_in};
 ghost use Rattle.qk_value.specs.View.{view_type};
 
-use crate::agreeing::{truth_type, typed_expression};
-use crate::refusing::{UNKNOWN_FORM, WRONG_COUNT, refusal};
-use crate::signed::{function_from_three, function_from_two, generator_from_one};
-use crate::tables::{ModelTypes, Tables};
 use qk_base::{Fault, Memory, Place, Seq};
+use qk_clauses::{
+    function_from_three, function_from_two, generator_from_one, truth_type, typed_expression,
+};
 use qk_core::{Expr, ModelDef};
+use qk_headers::{ModelTypes, Tables};
+use qk_names::{UNKNOWN_FORM, WRONG_COUNT, refusal};
 use qk_syntax::{Node, Tree};
 use qk_value::Ty;
 use std::alloc::Global;

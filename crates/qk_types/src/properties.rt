@@ -5,17 +5,14 @@ ghost use Rattle.qk_syntax.specs.Refusals.{IfRefusal};
 ghost use Rattle.qk_syntax.specs.View.{view, views};
 ghost use Rattle.qk_types.specs.Bodies.{property_body as property_of, forall_body as forall_of};
 ghost use Rattle.qk_types.specs.DraftView.{closed_property as closed_property_of};
-ghost use Rattle.qk_types.specs.ClausesView.{clauses_in};
-ghost use Rattle.qk_types.specs.TablesView.{tables_in};
+ghost use Rattle.qk_clauses.specs.ClausesView.{clauses_in};
+ghost use Rattle.qk_typing.specs.TablesView.{tables_in};
 
-use crate::binders::binders_at;
-use crate::checking::bytes_of;
-use crate::clause_heads::Clauses;
-use crate::clauses::clauses_at;
-use crate::refusing::{MOST_PARTS, WRONG_COUNT, refusal};
-use crate::tables::Tables;
 use qk_base::{Bytes, Fault, Place, Seq};
+use qk_clauses::{Clauses, binders_at, clauses_at};
 use qk_core::{Binder, Property};
+use qk_headers::{Tables, bytes_of};
+use qk_names::{MOST_PARTS, WRONG_COUNT, refusal};
 use qk_syntax::{Node, Tree};
 use std::alloc::Global;
 

@@ -9,10 +9,10 @@ use Rattle.qk_base.specs.declared.place.Place.{Place}
 use Rattle.qk_core.specs.ExprData.{ExprData}
 use Rattle.qk_core.specs.declared.expr.Pattern.{Pattern}
 use Rattle.qk_syntax.specs.PlainTrees.{PlainTree, name, list, PlainTrees, end, more, count}
-use Rattle.qk_types.specs.Operators.{Tables, Typed}
-use Rattle.qk_types.specs.Patterns.{Shape, Cases, agrees, with_case, is_among}
-use Rattle.qk_types.specs.Reserved.{Word}
-use Rattle.qk_types.specs.Scopes.{Scope, bind_all}
+use Rattle.qk_typing.specs.Operators.{Tables, Typed}
+use Rattle.qk_expressions.specs.Patterns.{Shape, Cases, agrees, with_case, is_among}
+use Rattle.qk_names.specs.Reserved.{Word}
+use Rattle.qk_headers.specs.Scopes.{Scope, bind_all}
 use Rattle.qk_value.specs.Types.{TypeData, int_type}
 use Rattle.qk_wellformed.specs.IsExpression.{IsExpression, AreArms, Arm, heads_of, cases_in, AreNew, AreAll}
 use Rattle.qk_wellformed.specs.IsVariable.{AreVariables}

@@ -9,15 +9,15 @@ use Rattle.qk_core.specs.declared.property.ShrinkBy.{ShrinkBy}
 use Rattle.qk_core.specs.declared.property.ShrinkBy.TheVariants as shrinks
 use Rattle.qk_syntax.specs.PlainTrees.{PlainTree, number, name, list, PlainTrees, end, more}
 use Rattle.qk_value.specs.Types.{TypeData, list_type}
-use Rattle.qk_types.specs.Binders.{scope_of, TypedDraw, command_list, commands_of, drawn_by, draw_at, shrink_with, shrink_at, shrink_or_builtin, binder_of, binder_at, binders_at}
-use Rattle.qk_types.specs.Checks.{◌>>=◌, refuse, place_of}
-use Rattle.qk_types.specs.Drawing.{drawn}
-use Rattle.qk_types.specs.Generators.{generator}
-use Rattle.qk_types.specs.Models.{function_at, declared_at, number_named, model_number}
-use Rattle.qk_types.specs.Names.{named_by}
-use Rattle.qk_types.specs.Operators.{Tables}
-use Rattle.qk_types.specs.Reserved.{Word}
-use Rattle.qk_types.specs.Scopes.{Scope, variable_at}
+use Rattle.qk_clauses.specs.Binders.{scope_of, TypedDraw, command_list, commands_of, drawn_by, draw_at, shrink_with, shrink_at, shrink_or_builtin, binder_of, binder_at, binders_at}
+use Rattle.qk_names.specs.Checks.{◌>>=◌, refuse, place_of}
+use Rattle.qk_generators.specs.Drawing.{drawn}
+use Rattle.qk_generators.specs.Generators.{generator}
+use Rattle.qk_clauses.specs.Models.{function_at, declared_at, number_named, model_number}
+use Rattle.qk_names.specs.Names.{named_by}
+use Rattle.qk_typing.specs.Operators.{Tables}
+use Rattle.qk_names.specs.Reserved.{Word}
+use Rattle.qk_headers.specs.Scopes.{Scope, variable_at}
 use Rattle.qk_wellformed.specs.AreBinders.{NamesModel, DrawsBy, IsDraw, IsShrink, IsBinder, AreBinders}
 use Rattle.qk_wellformed.specs.IsGenerator.{IsGenerator}
 use Rattle.qk_wellformed.specs.IsVariable.{IsVariable}

@@ -8,21 +8,21 @@ use Rattle.qk_core.specs.GenData.{GenData}
 use Rattle.qk_core.specs.Program.{ProgramData}
 use Rattle.qk_core.specs.Properties.{BinderData, CheckData, PropertyData}
 use Rattle.qk_syntax.specs.PlainTrees.{PlainTree, number, name, list, PlainTrees, end, more}
-use Rattle.qk_types.specs.Binders.{binders_at}
+use Rattle.qk_clauses.specs.Binders.{binders_at}
 use Rattle.qk_types.specs.Bodies.{function_body, generator_body, forall_body, property_body, no_model, item_body, body_at, bodies_after}
-use Rattle.qk_types.specs.Checks.{◌>>=◌, ◌>>◌, place_of}
-use Rattle.qk_types.specs.Clauses.{Clauses, no_clauses, clauses_at, closed_clauses}
-use Rattle.qk_types.specs.Drawing.{drawn, draws_type, generator_of}
-use Rattle.qk_types.specs.Expressions.{expression}
-use Rattle.qk_types.specs.Generators.{generator}
-use Rattle.qk_types.specs.Headers.{SignatureData, ModelTypesData}
-use Rattle.qk_types.specs.Models.{model_at}
-use Rattle.qk_types.specs.Names.{item_of}
-use Rattle.qk_types.specs.Operators.{Tables, typed, has_type, function_of}
-use Rattle.qk_types.specs.Reserved.{Word}
-use Rattle.qk_types.specs.Scopes.{types_of}
-use Rattle.qk_types.specs.declared.names.Item.{Item}
-use Rattle.qk_types.specs.declared.names.Item.TheVariants as items
+use Rattle.qk_names.specs.Checks.{◌>>=◌, ◌>>◌, place_of}
+use Rattle.qk_clauses.specs.Clauses.{Clauses, no_clauses, clauses_at, closed_clauses}
+use Rattle.qk_generators.specs.Drawing.{drawn, draws_type, generator_of}
+use Rattle.qk_expressions.specs.Expressions.{expression}
+use Rattle.qk_generators.specs.Generators.{generator}
+use Rattle.qk_headers.specs.Headers.{SignatureData, ModelTypesData}
+use Rattle.qk_clauses.specs.Models.{model_at}
+use Rattle.qk_names.specs.Names.{item_of}
+use Rattle.qk_typing.specs.Operators.{Tables, typed, has_type, function_of}
+use Rattle.qk_names.specs.Reserved.{Word}
+use Rattle.qk_headers.specs.Scopes.{types_of}
+use Rattle.qk_names.specs.declared.names.Item.{Item}
+use Rattle.qk_names.specs.declared.names.Item.TheVariants as items
 use Rattle.qk_wellformed.specs.AreBinders.{AreBinders}
 use Rattle.qk_wellformed.specs.IsExpression.{IsExpression}
 use Rattle.qk_wellformed.specs.IsGenerator.{IsGenerator}

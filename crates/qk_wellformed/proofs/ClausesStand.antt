@@ -6,10 +6,10 @@ use Rattle.qk_base.specs.declared.place.Place.{Place}
 use Rattle.qk_core.specs.ExprData.{ExprData}
 use Rattle.qk_core.specs.Properties.{BinderData, DrawData, plain, commands, CheckData, expression as holds, runs, MarkData}
 use Rattle.qk_syntax.specs.PlainTrees.{PlainTree, number, name, list, PlainTrees, end, more}
-use Rattle.qk_types.specs.Checks.{Checked, check, refuse}
-use Rattle.qk_types.specs.Clauses.{Clauses, Head, given, checks, checks_runs, labels, collects, classifies, tabulates, covers, head_of, truth_at, runs_after, clause_parts, headed_clause, clause_at, clauses_at, closed_clauses}
-use Rattle.qk_types.specs.Operators.{Tables}
-use Rattle.qk_types.specs.Reserved.{Word}
+use Rattle.qk_names.specs.Checks.{Checked, check, refuse}
+use Rattle.qk_clauses.specs.Clauses.{Clauses, Head, given, checks, checks_runs, labels, collects, classifies, tabulates, covers, head_of, truth_at, runs_after, clause_parts, headed_clause, clause_at, clauses_at, closed_clauses}
+use Rattle.qk_typing.specs.Operators.{Tables}
+use Rattle.qk_names.specs.Reserved.{Word}
 use Rattle.qk_wellformed.specs.AreClauses.{DrawsCommands, GivenBy, CheckBy, IsGiven, IsCheck, AreMarks, AreClauses}
 use Rattle.qk_wellformed.proofs.Inversion.{ok_is, bound, followed, test_held, after, next_after, holds as passes}
 use Rattle.qk_wellformed.proofs.MarksStand.{truth_stands, truth_given, so_far, marks_stand, marks_given}

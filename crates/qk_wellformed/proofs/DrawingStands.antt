@@ -5,12 +5,12 @@ use Rattle.std.proofs.lemmas.List.{length-map}
 use Rattle.qk_base.specs.declared.place.Place.{Place}
 use Rattle.qk_core.specs.GenData.{GenData, gens_of}
 use Rattle.qk_value.specs.Types.{TypeData, int_type, bool_type, list_type, made_type}
-use Rattle.qk_types.specs.Checks.{Checked, ◌>>◌}
-use Rattle.qk_types.specs.Drawing.{Drawn, drawn, OfValues, choose, elements, pure, call, OfDraws, list, pair, one_of, made, Sized, vector, resize, generator_of, gen_atom, takes_values, takes_draws, of_values, draws_type, draw_types, draws_agree, bare, of_draws, of_sized}
-use Rattle.qk_types.specs.Headers.{HeadersData}
-use Rattle.qk_types.specs.Operators.{Typed, has_type, have_types, agree, plain, fields_of}
-use Rattle.qk_types.specs.Reserved.{Word}
-use Rattle.qk_types.specs.Scopes.{types_of}
+use Rattle.qk_names.specs.Checks.{Checked, ◌>>◌}
+use Rattle.qk_generators.specs.Drawing.{Drawn, drawn, OfValues, choose, elements, pure, call, OfDraws, list, pair, one_of, made, Sized, vector, resize, generator_of, gen_atom, takes_values, takes_draws, of_values, draws_type, draw_types, draws_agree, bare, of_draws, of_sized}
+use Rattle.qk_headers.specs.Headers.{HeadersData}
+use Rattle.qk_typing.specs.Operators.{Typed, has_type, have_types, agree, plain, fields_of}
+use Rattle.qk_names.specs.Reserved.{Word}
+use Rattle.qk_headers.specs.Scopes.{types_of}
 use Rattle.qk_wellformed.specs.GeneratorTypes.{AllAre, ValuesTypes, DrawsTypes, SizedTypes, IsOfValues, IsOfDraws, IsSizedBy}
 use Rattle.qk_wellformed.specs.IsGenerator.{plain_generator}
 use Rattle.qk_wellformed.proofs.ArmsStand.{as_many, so_many}

@@ -7,14 +7,14 @@ use Rattle.qk_base.specs.declared.place.Place.{Place}
 use Rattle.qk_syntax.specs.PlainTrees.{PlainTree, number, name, list, PlainTrees, end, more, count}
 use Rattle.qk_core.specs.ExprData.{ExprData, cases_of}
 use Rattle.qk_value.specs.Types.{TypeData, int_type, list_type}
-use Rattle.qk_types.specs.Checks.{Checked, ◌>>=◌, place_of}
-use Rattle.qk_types.specs.ExpressionSteps.{formed, operator_at}
-use Rattle.qk_types.specs.Expressions.{expression, expressions, let_at, match_at, cases_at, nil_at}
-use Rattle.qk_types.specs.Operators.{Tables, Typed, typed, Form, empty_list, binding, matching, operator, Operator, forms, form_by, form_of, usable, arity, plain, applied}
-use Rattle.qk_types.specs.Patterns.{Shape, shapes_of, has_patterns, shape_at, pattern_variables, Cases, no_cases, is_among, agrees, with_case, are_complete, result_of}
-use Rattle.qk_types.specs.Reserved.{Word, entry_of}
-use Rattle.qk_types.specs.Scopes.{Scope, bind, bind_all, variable_at}
-use Rattle.qk_types.specs.TypesOf.{type_at}
+use Rattle.qk_names.specs.Checks.{Checked, ◌>>=◌, place_of}
+use Rattle.qk_expressions.specs.ExpressionSteps.{formed, operator_at}
+use Rattle.qk_expressions.specs.Expressions.{expression, expressions, let_at, match_at, cases_at, nil_at}
+use Rattle.qk_typing.specs.Operators.{Tables, Typed, typed, Form, empty_list, binding, matching, operator, Operator, forms, form_by, form_of, usable, arity, plain, applied}
+use Rattle.qk_expressions.specs.Patterns.{Shape, shapes_of, has_patterns, shape_at, pattern_variables, Cases, no_cases, is_among, agrees, with_case, are_complete, result_of}
+use Rattle.qk_names.specs.Reserved.{Word, entry_of}
+use Rattle.qk_headers.specs.Scopes.{Scope, bind, bind_all, variable_at}
+use Rattle.qk_headers.specs.TypesOf.{type_at}
 use Rattle.qk_wellformed.specs.IsExpression.{IsExpression, AreExpressions, IsLet, IsMatch, AreArms, IsEmptyList, Arm, heads_of, cases_in, AreNew}
 use Rattle.qk_wellformed.specs.IsVariable.{AreVariables}
 use Rattle.qk_wellformed.specs.OperatorTypes.{OperatorTypes, IsApplied}

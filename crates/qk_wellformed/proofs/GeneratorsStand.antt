@@ -7,14 +7,14 @@ use Rattle.qk_syntax.specs.PlainTrees.{PlainTree, number, name, list, PlainTrees
 use Rattle.qk_core.specs.ExprData.{ExprData}
 use Rattle.qk_core.specs.GenData.{GenData, weighteds_of}
 use Rattle.qk_value.specs.Types.{TypeData, int_type}
-use Rattle.qk_types.specs.Checks.{Checked, ◌>>=◌, place_of}
-use Rattle.qk_types.specs.Drawing.{Drawn, drawn, GenForm, values, draws, sized, frequency, bind, OfValues, OfDraws, Sized, Part, gen_forms, gen_form_by, gen_form_of, gen_atom, takes_values, takes_draws, of_values, bare, of_draws, weight_at, of_parts}
-use Rattle.qk_types.specs.Expressions.{expression, expressions}
-use Rattle.qk_types.specs.Generators.{generator, generators, sized_at, bind_at, parts_at}
-use Rattle.qk_types.specs.GenSteps.{values_at, draws_at, frequency_at, formed_gen}
-use Rattle.qk_types.specs.Operators.{Tables, Typed, typed, usable, plain}
-use Rattle.qk_types.specs.Reserved.{Word, entry_of}
-use Rattle.qk_types.specs.Scopes.{Scope, bind as with_variable, variable_at}
+use Rattle.qk_names.specs.Checks.{Checked, ◌>>=◌, place_of}
+use Rattle.qk_generators.specs.Drawing.{Drawn, drawn, GenForm, values, draws, sized, frequency, bind, OfValues, OfDraws, Sized, Part, gen_forms, gen_form_by, gen_form_of, gen_atom, takes_values, takes_draws, of_values, bare, of_draws, weight_at, of_parts}
+use Rattle.qk_expressions.specs.Expressions.{expression, expressions}
+use Rattle.qk_generators.specs.Generators.{generator, generators, sized_at, bind_at, parts_at}
+use Rattle.qk_generators.specs.GenSteps.{values_at, draws_at, frequency_at, formed_gen}
+use Rattle.qk_typing.specs.Operators.{Tables, Typed, typed, usable, plain}
+use Rattle.qk_names.specs.Reserved.{Word, entry_of}
+use Rattle.qk_headers.specs.Scopes.{Scope, bind as with_variable, variable_at}
 use Rattle.qk_wellformed.specs.GeneratorTypes.{AllAre, ValuesTypes, DrawsTypes, SizedTypes, IsOfValues, IsOfDraws, IsSizedBy}
 use Rattle.qk_wellformed.specs.IsExpression.{IsExpression, AreExpressions}
 use Rattle.qk_wellformed.specs.IsGenerator.{IsGenerator, AreGenerators, IsSized, IsBind, AreWeighed, plain_generator}

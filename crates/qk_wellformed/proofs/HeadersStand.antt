@@ -6,15 +6,15 @@ use Rattle.qk_base.specs.declared.place.Place.{Place}
 use Rattle.qk_syntax.specs.PlainTrees.{PlainTree, number, name, list, PlainTrees, end, more, count}
 use Rattle.qk_value.specs.Kinds.{MakerData}
 use Rattle.qk_value.specs.Types.{TypeData}
-use Rattle.qk_types.specs.Checks.{◌>>=◌, ◌>>◌, check, refuse}
-use Rattle.qk_types.specs.Headers.{SignatureData, ModelTypesData, HeadersData, named_maker, makers_after, named_parameter, parameters_at, parameter_list, signature_at, model_part, model_types, forall_parts, property_shape, item_header, header_at, headers_after}
-use Rattle.qk_types.specs.Names.{Declared, item_of}
-use Rattle.qk_types.specs.Reserved.{Word}
-use Rattle.qk_types.specs.Scopes.{Scope, bind, new_variable}
+use Rattle.qk_names.specs.Checks.{◌>>=◌, ◌>>◌, check, refuse}
+use Rattle.qk_headers.specs.Headers.{SignatureData, ModelTypesData, HeadersData, named_maker, makers_after, named_parameter, parameters_at, parameter_list, signature_at, model_part, model_types, forall_parts, property_shape, item_header, header_at, headers_after}
+use Rattle.qk_names.specs.Names.{Declared, item_of}
+use Rattle.qk_names.specs.Reserved.{Word}
+use Rattle.qk_headers.specs.Scopes.{Scope, bind, new_variable}
 use Rattle.qk_wellformed.specs.IsType.{IsType}
-use Rattle.qk_types.specs.TypesOf.{type_at, types_after}
-use Rattle.qk_types.specs.declared.names.Item.{Item}
-use Rattle.qk_types.specs.declared.names.Item.TheVariants as items
+use Rattle.qk_headers.specs.TypesOf.{type_at, types_after}
+use Rattle.qk_names.specs.declared.names.Item.{Item}
+use Rattle.qk_names.specs.declared.names.Item.TheVariants as items
 use Rattle.qk_wellformed.specs.AreHeaders.{AreTypes, AreMakers, AreParameters, IsSignature, IsModelPart, HasModelTypes, IsForall, AddsHeader, IsHeader, HeadersFrom}
 use Rattle.qk_wellformed.specs.IsVariable.{MayBeBound}
 use Rattle.qk_wellformed.proofs.ArmsStand.{as_many, so_many}

@@ -1,7 +1,7 @@
 -- What is known of checks one after another that have come to a value.
 use Rattle.std.proofs.Common.{◌≡◌, ◌∙◌, ℕ, Bool, true, false, refl, ap, Ok, Err}
 use Rattle.qk_base.specs.declared.place.Place.{Place}
-use Rattle.qk_types.specs.Checks.{Checked, ◌>>=◌, ◌>>◌, refuse, check}
+use Rattle.qk_names.specs.Checks.{Checked, ◌>>=◌, ◌>>◌, refuse, check}
 
 pub ok_is : {A : Type 0} (a b : A) (e : Checked A) → e ≡ Ok a → e ≡ Ok b → a ≡ b
 ok_is a b e h k = cc

@@ -7,12 +7,12 @@ use Rattle.qk_core.specs.ExprData.{ExprData}
 use Rattle.qk_core.specs.Properties.{BinderData, CheckData, MarkData, label, collect, classify, tabulate, cover}
 use Rattle.qk_syntax.specs.PlainTrees.{PlainTree, number, name, list, PlainTrees, end, more}
 use Rattle.qk_value.specs.Types.{bool_type}
-use Rattle.qk_types.specs.Binders.{scope_of}
-use Rattle.qk_types.specs.Checks.{◌>>=◌, ◌>>◌, place_of}
-use Rattle.qk_types.specs.Clauses.{Clauses, Head, given, checks, checks_runs, labels, collects, classifies, tabulates, covers, head_of, any_name, value_at, truth_at, percent_at, clause_parts, headed_clause, clause_at, clauses_at, with_mark}
-use Rattle.qk_types.specs.Expressions.{expression}
-use Rattle.qk_types.specs.Operators.{Tables, Typed, typed, has_type}
-use Rattle.qk_types.specs.Reserved.{Word}
+use Rattle.qk_clauses.specs.Binders.{scope_of}
+use Rattle.qk_names.specs.Checks.{◌>>=◌, ◌>>◌, place_of}
+use Rattle.qk_clauses.specs.Clauses.{Clauses, Head, given, checks, checks_runs, labels, collects, classifies, tabulates, covers, head_of, any_name, value_at, truth_at, percent_at, clause_parts, headed_clause, clause_at, clauses_at, with_mark}
+use Rattle.qk_expressions.specs.Expressions.{expression}
+use Rattle.qk_typing.specs.Operators.{Tables, Typed, typed, has_type}
+use Rattle.qk_names.specs.Reserved.{Word}
 use Rattle.qk_wellformed.specs.AreClauses.{IsTruth, MarkBy, IsMark, AreMarks}
 use Rattle.qk_wellformed.specs.IsExpression.{IsExpression}
 use Rattle.qk_wellformed.proofs.ExpressionsStand.{expression_stands, expression_given}

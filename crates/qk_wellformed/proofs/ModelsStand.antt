@@ -5,16 +5,16 @@ use Rattle.qk_core.specs.Definitions.{ModelData}
 use Rattle.qk_core.specs.ExprData.{ExprData}
 use Rattle.qk_syntax.specs.PlainTrees.{PlainTree, number, name, list, PlainTrees, end, more}
 use Rattle.qk_value.specs.Types.{TypeData, bool_type, same_type}
-use Rattle.qk_types.specs.Checks.{◌>>=◌, ◌>>◌, check, place_of}
-use Rattle.qk_types.specs.Drawing.{generator_of}
-use Rattle.qk_types.specs.Expressions.{expression}
-use Rattle.qk_types.specs.Headers.{SignatureData, ModelTypesData}
-use Rattle.qk_types.specs.Models.{same_types, is_from_to, number_named, function_number, generator_number, model_number, function_at, generator_at, closed, Abstract, System, command_at, abstract_at, system_at, model_at}
-use Rattle.qk_types.specs.Names.{named_by}
-use Rattle.qk_types.specs.Operators.{Tables, typed, has_type, function_of}
-use Rattle.qk_types.specs.Scopes.{types_of}
-use Rattle.qk_types.specs.declared.names.Named.{Named}
-use Rattle.qk_types.specs.declared.names.Named.TheVariants as named
+use Rattle.qk_names.specs.Checks.{◌>>=◌, ◌>>◌, check, place_of}
+use Rattle.qk_generators.specs.Drawing.{generator_of}
+use Rattle.qk_expressions.specs.Expressions.{expression}
+use Rattle.qk_headers.specs.Headers.{SignatureData, ModelTypesData}
+use Rattle.qk_clauses.specs.Models.{same_types, is_from_to, number_named, function_number, generator_number, model_number, function_at, generator_at, closed, Abstract, System, command_at, abstract_at, system_at, model_at}
+use Rattle.qk_names.specs.Names.{named_by}
+use Rattle.qk_typing.specs.Operators.{Tables, typed, has_type, function_of}
+use Rattle.qk_headers.specs.Scopes.{types_of}
+use Rattle.qk_names.specs.declared.names.Named.{Named}
+use Rattle.qk_names.specs.declared.names.Named.TheVariants as named
 use Rattle.qk_wellformed.specs.IsExpression.{IsExpression}
 use Rattle.qk_wellformed.specs.IsModel.{IsFromTo, NamesFunction, NamesGenerator, IsCommandPart, IsAbstractPart, IsSystemPart, HasTypes, IsModel}
 use Rattle.qk_wellformed.proofs.ExpressionsStand.{expression_stands, expression_given}

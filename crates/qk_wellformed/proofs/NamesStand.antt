@@ -4,13 +4,13 @@ use Rattle.std.proofs.Common.{◌≡◌, ◌∙◌, ℕ, ◌+◌, ◌≤◌, fal
 use Rattle.qk_base.specs.declared.place.Place.{Place}
 use Rattle.qk_syntax.specs.Places.{start}
 use Rattle.qk_syntax.specs.PlainTrees.{PlainTree, number, name, list, PlainTrees, end, more, count}
-use Rattle.qk_types.specs.Checks.{◌>>◌, check}
-use Rattle.qk_types.specs.Names.{Declared, is_known, item_of, number_of, numbered, declare, named_maker, maker_names, inner_names, named_item, item_names, all_names, names_of}
-use Rattle.qk_types.specs.Reserved.{Word}
-use Rattle.qk_types.specs.declared.names.Item.{Item}
-use Rattle.qk_types.specs.declared.names.Item.TheVariants as items
-use Rattle.qk_types.specs.declared.names.Named.{Named}
-use Rattle.qk_types.specs.declared.names.Named.TheVariants as named
+use Rattle.qk_names.specs.Checks.{◌>>◌, check}
+use Rattle.qk_names.specs.Names.{Declared, is_known, item_of, number_of, numbered, declare, named_maker, maker_names, inner_names, named_item, item_names, all_names, names_of}
+use Rattle.qk_names.specs.Reserved.{Word}
+use Rattle.qk_names.specs.declared.names.Item.{Item}
+use Rattle.qk_names.specs.declared.names.Item.TheVariants as items
+use Rattle.qk_names.specs.declared.names.Named.{Named}
+use Rattle.qk_names.specs.declared.names.Named.TheVariants as named
 use Rattle.qk_wellformed.specs.AreNames.{with_name, DeclareMakers, DeclareInner, DeclaresItem, DeclareItems, AreNames}
 use Rattle.qk_wellformed.proofs.ArmsStand.{not_true}
 use Rattle.qk_wellformed.proofs.Inversion.{ok_is, bound, held, after, passing}

@@ -4,13 +4,13 @@ use Rattle.std.proofs.Common.{◌≡◌, ◌∙◌, Bool, true, false, List, ref
 use Rattle.qk_base.specs.declared.place.Place.{Place}
 use Rattle.qk_core.specs.ExprData.{ExprData}
 use Rattle.qk_value.specs.Types.{TypeData, bool_type}
-use Rattle.qk_types.specs.Checks.{refuse}
-use Rattle.qk_types.specs.Expressions.{atom, variable_or, lone_name}
-use Rattle.qk_types.specs.Names.{Declared, is_known}
-use Rattle.qk_types.specs.Operators.{Tables, Typed, typed, usable}
-use Rattle.qk_types.specs.Patterns.{Shape, shape_or_refused}
-use Rattle.qk_types.specs.Reserved.{Word}
-use Rattle.qk_types.specs.Scopes.{Scope, Found, variable_of}
+use Rattle.qk_names.specs.Checks.{refuse}
+use Rattle.qk_expressions.specs.Expressions.{atom, variable_or, lone_name}
+use Rattle.qk_names.specs.Names.{Declared, is_known}
+use Rattle.qk_typing.specs.Operators.{Tables, Typed, typed, usable}
+use Rattle.qk_expressions.specs.Patterns.{Shape, shape_or_refused}
+use Rattle.qk_names.specs.Reserved.{Word}
+use Rattle.qk_headers.specs.Scopes.{Scope, Found, variable_of}
 use Rattle.qk_wellformed.specs.IsExpression.{IsLoneName, truth_of}
 use Rattle.qk_wellformed.proofs.Inversion.{ok_is, held}
 

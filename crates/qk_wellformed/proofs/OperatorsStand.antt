@@ -8,10 +8,10 @@ use Rattle.qk_core.specs.declared.expr.Op1.{Op1}
 use Rattle.qk_core.specs.declared.expr.Op1.TheVariants as ones
 use Rattle.qk_core.specs.declared.expr.Op2.{Op2}
 use Rattle.qk_core.specs.declared.expr.Op2.TheVariants as twos
-use Rattle.qk_types.specs.Checks.{Checked, ◌>>◌}
-use Rattle.qk_types.specs.Headers.{HeadersData}
-use Rattle.qk_types.specs.Operators.{Typed, typed, has_type, have_types, is_list, unary_type, binary_type, Operator, choice, unary, binary, maker, function, fields_of, function_of, arity, plain, applied}
-use Rattle.qk_types.specs.Scopes.{types_of}
+use Rattle.qk_names.specs.Checks.{Checked, ◌>>◌}
+use Rattle.qk_headers.specs.Headers.{HeadersData}
+use Rattle.qk_typing.specs.Operators.{Typed, typed, has_type, have_types, is_list, unary_type, binary_type, Operator, choice, unary, binary, maker, function, fields_of, function_of, arity, plain, applied}
+use Rattle.qk_headers.specs.Scopes.{types_of}
 use Rattle.qk_wellformed.specs.OperatorTypes.{UnaryTypes, BinaryTypes, OperatorTypes, IsApplied}
 use Rattle.qk_wellformed.proofs.Inversion.{ok_is, bound, followed, after, next_after}
 use Rattle.qk_wellformed.proofs.SameTypes.{has, given, some_list, list_given, all_have, all_given}

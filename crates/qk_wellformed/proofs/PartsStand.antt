@@ -7,9 +7,9 @@ use Rattle.qk_base.specs.declared.place.Place.{Place}
 use Rattle.qk_syntax.specs.PlainTrees.{number, list, PlainTrees, end, more, count}
 use Rattle.qk_core.specs.GenData.{GenData, weighteds_of}
 use Rattle.qk_value.specs.Types.{TypeData}
-use Rattle.qk_types.specs.Drawing.{Drawn, drawn, Part, weight_at, of_parts, draws_agree}
-use Rattle.qk_types.specs.Operators.{Tables}
-use Rattle.qk_types.specs.Scopes.{Scope}
+use Rattle.qk_generators.specs.Drawing.{Drawn, drawn, Part, weight_at, of_parts, draws_agree}
+use Rattle.qk_typing.specs.Operators.{Tables}
+use Rattle.qk_headers.specs.Scopes.{Scope}
 use Rattle.qk_wellformed.specs.GeneratorTypes.{AllAre}
 use Rattle.qk_wellformed.specs.IsGenerator.{IsGenerator, AreWeighed}
 use Rattle.qk_wellformed.proofs.DrawingStands.{types_drawn, draws_agreeing, draws_agree_given, all_as, parts_same, drawn_same}

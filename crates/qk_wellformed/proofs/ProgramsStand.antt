@@ -9,11 +9,11 @@ use Rattle.qk_core.specs.Program.{ProgramData}
 use Rattle.qk_syntax.specs.PlainTrees.{PlainTrees}
 use Rattle.qk_syntax.specs.Refusals.{IfRefusal}
 use Rattle.qk_types.specs.Bodies.{bodies_of}
-use Rattle.qk_types.specs.Checks.{Checked, ◌>>=◌}
+use Rattle.qk_names.specs.Checks.{Checked, ◌>>=◌}
 use Rattle.qk_types.specs.Elaboration.{elaborated, type_fault}
-use Rattle.qk_types.specs.Headers.{HeadersData, no_headers, headers_of}
-use Rattle.qk_types.specs.Names.{Declared, names_of}
-use Rattle.qk_types.specs.Operators.{Tables}
+use Rattle.qk_headers.specs.Headers.{HeadersData, no_headers, headers_of}
+use Rattle.qk_names.specs.Names.{Declared, names_of}
+use Rattle.qk_typing.specs.Operators.{Tables}
 use Rattle.qk_wellformed.specs.StandsFor.{no_bodies, StandsFor}
 use Rattle.qk_wellformed.proofs.BodiesStand.{bodies_stand, bodies_given}
 use Rattle.qk_wellformed.proofs.HeadersStand.{headers_stand, headers_given}

@@ -4,7 +4,7 @@ use Rattle.std.proofs.lemmas.Bool.Decides.{nat_tests}
 use Rattle.qk_base.specs.declared.place.Place.{Place}
 use Rattle.qk_core.specs.ExprData.{ExprData}
 use Rattle.qk_value.specs.Types.{TypeData, int_type, bool_type, list_type, pair_type, made_type, same_type}
-use Rattle.qk_types.specs.Operators.{Typed, typed, has_type, have_types, is_list}
+use Rattle.qk_typing.specs.Operators.{Typed, typed, has_type, have_types, is_list}
 use Rattle.qk_wellformed.proofs.Inversion.{followed, holds, test_held, next_after}
 
 pub both : (a b : Bool) → (a && b) ≡ true → (a ≡ true) × (b ≡ true)

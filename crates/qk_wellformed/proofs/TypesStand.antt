@@ -3,14 +3,14 @@ use Rattle.std.proofs.Common.{◌≡◌, List, refl, sym, ap, Option, Some, None
 use Rattle.qk_base.specs.declared.place.Place.{Place}
 use Rattle.qk_syntax.specs.PlainTrees.{PlainTree, number, name, list, PlainTrees, end, more}
 use Rattle.qk_value.specs.Types.{TypeData, list_type, pair_type}
-use Rattle.qk_types.specs.Checks.{◌>>=◌}
-use Rattle.qk_types.specs.Names.{Declared, named_by}
-use Rattle.qk_types.specs.Reserved.{Word}
-use Rattle.qk_types.specs.TypesOf.{type_at, formed_type, type_by_word, user_type, former}
-use Rattle.qk_types.specs.declared.names.Named.{Named}
-use Rattle.qk_types.specs.declared.names.Named.TheVariants as named
-use Rattle.qk_types.specs.declared.types_of.Former.{Former}
-use Rattle.qk_types.specs.declared.types_of.Former.TheVariants as formers
+use Rattle.qk_names.specs.Checks.{◌>>=◌}
+use Rattle.qk_names.specs.Names.{Declared, named_by}
+use Rattle.qk_names.specs.Reserved.{Word}
+use Rattle.qk_headers.specs.TypesOf.{type_at, formed_type, type_by_word, user_type, former}
+use Rattle.qk_names.specs.declared.names.Named.{Named}
+use Rattle.qk_names.specs.declared.names.Named.TheVariants as named
+use Rattle.qk_headers.specs.declared.types_of.Former.{Former}
+use Rattle.qk_headers.specs.declared.types_of.Former.TheVariants as formers
 use Rattle.qk_wellformed.specs.IsType.{IsType, IsFormedType, NamesType, plain_type}
 use Rattle.qk_wellformed.proofs.Inversion.{ok_is, bound, after}
 

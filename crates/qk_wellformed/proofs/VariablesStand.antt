@@ -3,9 +3,9 @@ use Rattle.std.proofs.Common.{◌≡◌, ◌∙◌, Bool, true, false, not, ◌|
 use Rattle.std.proofs.lemmas.List.{append_assoc, append-nil}
 use Rattle.qk_base.specs.declared.place.Place.{Place}
 use Rattle.qk_syntax.specs.PlainTrees.{PlainTree, number, name, list, PlainTrees, end, more}
-use Rattle.qk_types.specs.Patterns.{is_among, pattern_variables}
-use Rattle.qk_types.specs.Reserved.{Word}
-use Rattle.qk_types.specs.Scopes.{is_truth_word, new_variable, variable_at}
+use Rattle.qk_expressions.specs.Patterns.{is_among, pattern_variables}
+use Rattle.qk_names.specs.Reserved.{Word}
+use Rattle.qk_headers.specs.Scopes.{is_truth_word, new_variable, variable_at}
 use Rattle.qk_wellformed.specs.IsVariable.{IsVariable, AreVariables, MayBeBound}
 use Rattle.qk_wellformed.proofs.Inversion.{ok_is, bound, held, after, passing}
 

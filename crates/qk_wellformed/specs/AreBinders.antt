@@ -6,12 +6,12 @@ use Rattle.qk_core.specs.declared.property.ShrinkBy.{ShrinkBy}
 use Rattle.qk_core.specs.declared.property.ShrinkBy.TheVariants as shrinks
 use Rattle.qk_syntax.specs.PlainTrees.{PlainTree, name, list, PlainTrees, end, more}
 use Rattle.qk_value.specs.Types.{TypeData, list_type}
-use Rattle.qk_types.specs.Binders.{scope_of, command_list}
-use Rattle.qk_types.specs.BoundView.{is_commands}
-use Rattle.qk_types.specs.Names.{named_by}
-use Rattle.qk_types.specs.Operators.{Tables}
-use Rattle.qk_types.specs.Scopes.{Scope}
-use Rattle.qk_types.specs.declared.names.Named.TheVariants as named
+use Rattle.qk_clauses.specs.Binders.{scope_of, command_list}
+use Rattle.qk_clauses.specs.BoundView.{is_commands}
+use Rattle.qk_names.specs.Names.{named_by}
+use Rattle.qk_typing.specs.Operators.{Tables}
+use Rattle.qk_headers.specs.Scopes.{Scope}
+use Rattle.qk_names.specs.declared.names.Named.TheVariants as named
 use Rattle.qk_wellformed.specs.IsGenerator.{IsGenerator}
 use Rattle.qk_wellformed.specs.IsModel.{NamesFunction}
 use Rattle.qk_wellformed.specs.IsVariable.{IsVariable}

@@ -4,10 +4,10 @@ use Rattle.qk_core.specs.ExprData.{ExprData}
 use Rattle.qk_core.specs.Properties.{BinderData, commands, CheckData, expression as holds, runs, MarkData, label, collect, classify, tabulate, cover}
 use Rattle.qk_syntax.specs.PlainTrees.{PlainTree, number, name, list, PlainTrees, end, more}
 use Rattle.qk_value.specs.Types.{TypeData, bool_type}
-use Rattle.qk_types.specs.Binders.{scope_of}
-use Rattle.qk_types.specs.Clauses.{Head, given, checks, checks_runs, labels, collects, classifies, tabulates, covers, head_of}
-use Rattle.qk_types.specs.Operators.{Tables}
-use Rattle.qk_types.specs.Reserved.{Word}
+use Rattle.qk_clauses.specs.Binders.{scope_of}
+use Rattle.qk_clauses.specs.Clauses.{Head, given, checks, checks_runs, labels, collects, classifies, tabulates, covers, head_of}
+use Rattle.qk_typing.specs.Operators.{Tables}
+use Rattle.qk_names.specs.Reserved.{Word}
 use Rattle.qk_wellformed.specs.IsExpression.{IsExpression}
 
 -- an expression over the binders that is true or false

@@ -3,12 +3,12 @@ use Rattle.std.specs.Prelude.{◌≡◌, ℕ, ◌≤◌, true, List, [], ◌∷�
 use Rattle.qk_syntax.specs.PlainTrees.{PlainTree, name, list, PlainTrees, end, more, count}
 use Rattle.qk_value.specs.Kinds.{MakerData}
 use Rattle.qk_value.specs.Types.{TypeData}
-use Rattle.qk_types.specs.Headers.{SignatureData, ModelTypesData, HeadersData, no_headers}
-use Rattle.qk_types.specs.Names.{Declared, item_of}
-use Rattle.qk_types.specs.Reserved.{Word}
-use Rattle.qk_types.specs.Scopes.{Scope, bind}
-use Rattle.qk_types.specs.declared.names.Item.{Item}
-use Rattle.qk_types.specs.declared.names.Item.TheVariants as items
+use Rattle.qk_headers.specs.Headers.{SignatureData, ModelTypesData, HeadersData, no_headers}
+use Rattle.qk_names.specs.Names.{Declared, item_of}
+use Rattle.qk_names.specs.Reserved.{Word}
+use Rattle.qk_headers.specs.Scopes.{Scope, bind}
+use Rattle.qk_names.specs.declared.names.Item.{Item}
+use Rattle.qk_names.specs.declared.names.Item.TheVariants as items
 use Rattle.qk_wellformed.specs.IsType.{IsType}
 use Rattle.qk_wellformed.specs.IsVariable.{MayBeBound}
 

@@ -1,12 +1,12 @@
 -- Which names the items of a program declare.
 use Rattle.std.specs.Prelude.{◌≡◌, ℕ, ◌+◌, ◌<◌, ◌≤◌, false, List, [], ◌∷◌, ◌++◌, Some}
 use Rattle.qk_syntax.specs.PlainTrees.{PlainTree, name, list, PlainTrees, end, more, count}
-use Rattle.qk_types.specs.Names.{Declared, is_known, item_of, number_of, numbered}
-use Rattle.qk_types.specs.Reserved.{Word}
-use Rattle.qk_types.specs.declared.names.Item.{Item}
-use Rattle.qk_types.specs.declared.names.Item.TheVariants as items
-use Rattle.qk_types.specs.declared.names.Named.{Named}
-use Rattle.qk_types.specs.declared.names.Named.TheVariants as named
+use Rattle.qk_names.specs.Names.{Declared, is_known, item_of, number_of, numbered}
+use Rattle.qk_names.specs.Reserved.{Word}
+use Rattle.qk_names.specs.declared.names.Item.{Item}
+use Rattle.qk_names.specs.declared.names.Item.TheVariants as items
+use Rattle.qk_names.specs.declared.names.Named.{Named}
+use Rattle.qk_names.specs.declared.names.Named.TheVariants as named
 
 -- the names before, and this one
 abbrev pub with_name : List Declared → Word → Named → List Declared

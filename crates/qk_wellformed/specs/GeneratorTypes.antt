@@ -3,10 +3,10 @@ use Rattle.std.specs.Prelude.{◌≡◌, List, [], ◌∷◌}
 use Rattle.qk_value.specs.Types.{TypeData, int_type, list_type, pair_type, made_type}
 use Rattle.qk_core.specs.ExprData.{ExprData}
 use Rattle.qk_core.specs.GenData.{GenData, gens_of}
-use Rattle.qk_types.specs.Drawing.{OfValues, choose, elements, pure, call, OfDraws, list, pair, one_of, made, Sized, vector, resize, generator_of}
-use Rattle.qk_types.specs.Headers.{HeadersData}
-use Rattle.qk_types.specs.Operators.{fields_of}
-use Rattle.qk_types.specs.Scopes.{types_of}
+use Rattle.qk_generators.specs.Drawing.{OfValues, choose, elements, pure, call, OfDraws, list, pair, one_of, made, Sized, vector, resize, generator_of}
+use Rattle.qk_headers.specs.Headers.{HeadersData}
+use Rattle.qk_typing.specs.Operators.{fields_of}
+use Rattle.qk_headers.specs.Scopes.{types_of}
 
 abbrev pub AllAre : TypeData → List TypeData → Type 0
 AllAre t [] = Unit {0}

@@ -5,11 +5,11 @@ use Rattle.qk_syntax.specs.PlainTrees.{PlainTree, number, name, list, PlainTrees
 use Rattle.qk_value.specs.Types.{TypeData, int_type, bool_type, list_type}
 use Rattle.qk_core.specs.ExprData.{ExprData, cases_of}
 use Rattle.qk_core.specs.declared.expr.Pattern.{Pattern}
-use Rattle.qk_types.specs.Names.{Declared}
-use Rattle.qk_types.specs.Operators.{Tables, Form, empty_list, binding, matching, operator, forms, form_by}
-use Rattle.qk_types.specs.Patterns.{Shape, shapes_of, has_patterns, is_among}
-use Rattle.qk_types.specs.Reserved.{Word, entry_of}
-use Rattle.qk_types.specs.Scopes.{Scope, Found, variable_of, bind, bind_all}
+use Rattle.qk_names.specs.Names.{Declared}
+use Rattle.qk_typing.specs.Operators.{Tables, Form, empty_list, binding, matching, operator, forms, form_by}
+use Rattle.qk_expressions.specs.Patterns.{Shape, shapes_of, has_patterns, is_among}
+use Rattle.qk_names.specs.Reserved.{Word, entry_of}
+use Rattle.qk_headers.specs.Scopes.{Scope, Found, variable_of, bind, bind_all}
 use Rattle.qk_wellformed.specs.IsType.{IsType}
 use Rattle.qk_wellformed.specs.IsVariable.{IsVariable, AreVariables}
 use Rattle.qk_wellformed.specs.OperatorTypes.{OperatorTypes, IsApplied}

@@ -4,10 +4,10 @@ use Rattle.qk_syntax.specs.PlainTrees.{PlainTree, number, name, list, PlainTrees
 use Rattle.qk_value.specs.Types.{TypeData, int_type, bool_type}
 use Rattle.qk_core.specs.ExprData.{ExprData}
 use Rattle.qk_core.specs.GenData.{GenData, weighteds_of}
-use Rattle.qk_types.specs.Drawing.{GenForm, values, draws, sized, frequency, bind, Sized, gen_forms, gen_form_by}
-use Rattle.qk_types.specs.Operators.{Tables}
-use Rattle.qk_types.specs.Reserved.{Word, entry_of}
-use Rattle.qk_types.specs.Scopes.{Scope, bind as with_variable}
+use Rattle.qk_generators.specs.Drawing.{GenForm, values, draws, sized, frequency, bind, Sized, gen_forms, gen_form_by}
+use Rattle.qk_typing.specs.Operators.{Tables}
+use Rattle.qk_names.specs.Reserved.{Word, entry_of}
+use Rattle.qk_headers.specs.Scopes.{Scope, bind as with_variable}
 use Rattle.qk_wellformed.specs.GeneratorTypes.{ValuesTypes, IsOfValues, DrawsTypes, IsOfDraws, SizedTypes, IsSizedBy}
 use Rattle.qk_wellformed.specs.IsExpression.{IsExpression, AreExpressions}
 use Rattle.qk_wellformed.specs.IsVariable.{IsVariable}

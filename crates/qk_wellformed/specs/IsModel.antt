@@ -3,12 +3,12 @@ use Rattle.std.specs.Prelude.{◌≡◌, ℕ, List, [], ◌∷◌, Some}
 use Rattle.qk_core.specs.Definitions.{ModelData}
 use Rattle.qk_syntax.specs.PlainTrees.{PlainTree, name, list, PlainTrees, end, more}
 use Rattle.qk_value.specs.Types.{TypeData, bool_type}
-use Rattle.qk_types.specs.Drawing.{generator_of}
-use Rattle.qk_types.specs.Headers.{SignatureData, ModelTypesData}
-use Rattle.qk_types.specs.Names.{named_by}
-use Rattle.qk_types.specs.Operators.{Tables, function_of}
-use Rattle.qk_types.specs.Scopes.{types_of}
-use Rattle.qk_types.specs.declared.names.Named.TheVariants as named
+use Rattle.qk_generators.specs.Drawing.{generator_of}
+use Rattle.qk_headers.specs.Headers.{SignatureData, ModelTypesData}
+use Rattle.qk_names.specs.Names.{named_by}
+use Rattle.qk_typing.specs.Operators.{Tables, function_of}
+use Rattle.qk_headers.specs.Scopes.{types_of}
+use Rattle.qk_names.specs.declared.names.Named.TheVariants as named
 use Rattle.qk_wellformed.specs.IsExpression.{IsExpression}
 
 -- from values of these types to values of that type

@@ -2,13 +2,13 @@
 use Rattle.std.specs.Prelude.{◌≡◌, ◌∷◌, [], List, codes, Option, Some, None}
 use Rattle.qk_syntax.specs.PlainTrees.{PlainTree, number, name, list, PlainTrees, end, more}
 use Rattle.qk_value.specs.Types.{TypeData, int_type, bool_type, list_type, pair_type, made_type}
-use Rattle.qk_types.specs.Names.{Declared, named_by}
-use Rattle.qk_types.specs.Reserved.{Word, entry_of}
-use Rattle.qk_types.specs.TypesOf.{former}
-use Rattle.qk_types.specs.declared.names.Named.{Named}
-use Rattle.qk_types.specs.declared.names.Named.TheVariants as named
-use Rattle.qk_types.specs.declared.types_of.Former.{Former}
-use Rattle.qk_types.specs.declared.types_of.Former.TheVariants as formers
+use Rattle.qk_names.specs.Names.{Declared, named_by}
+use Rattle.qk_names.specs.Reserved.{Word, entry_of}
+use Rattle.qk_headers.specs.TypesOf.{former}
+use Rattle.qk_names.specs.declared.names.Named.{Named}
+use Rattle.qk_names.specs.declared.names.Named.TheVariants as named
+use Rattle.qk_headers.specs.declared.types_of.Former.{Former}
+use Rattle.qk_headers.specs.declared.types_of.Former.TheVariants as formers
 
 -- the type that has this word, if one has
 abbrev pub plain_type : Word → Option TypeData

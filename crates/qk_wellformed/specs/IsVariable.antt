@@ -1,9 +1,9 @@
 -- Which trees name new variables.
 use Rattle.std.specs.Prelude.{◌≡◌, false, List, [], ◌∷◌, ◌++◌}
 use Rattle.qk_syntax.specs.PlainTrees.{PlainTree, name, PlainTrees, end, more}
-use Rattle.qk_types.specs.Patterns.{is_among}
-use Rattle.qk_types.specs.Reserved.{Word}
-use Rattle.qk_types.specs.Scopes.{is_truth_word}
+use Rattle.qk_expressions.specs.Patterns.{is_among}
+use Rattle.qk_names.specs.Reserved.{Word}
+use Rattle.qk_headers.specs.Scopes.{is_truth_word}
 
 -- neither `true`, `false` nor one of these
 pub record MayBeBound (before : List Word) (w : Word) : Type 0 where

@@ -6,9 +6,9 @@ use Rattle.qk_core.specs.declared.expr.Op1.{Op1}
 use Rattle.qk_core.specs.declared.expr.Op1.TheVariants as ones
 use Rattle.qk_core.specs.declared.expr.Op2.{Op2}
 use Rattle.qk_core.specs.declared.expr.Op2.TheVariants as twos
-use Rattle.qk_types.specs.Headers.{HeadersData}
-use Rattle.qk_types.specs.Operators.{Operator, choice, unary, binary, maker, function, fields_of, function_of}
-use Rattle.qk_types.specs.Scopes.{types_of}
+use Rattle.qk_headers.specs.Headers.{HeadersData}
+use Rattle.qk_typing.specs.Operators.{Operator, choice, unary, binary, maker, function, fields_of, function_of}
+use Rattle.qk_headers.specs.Scopes.{types_of}
 
 -- of one part
 abbrev pub UnaryTypes : Op1 → TypeData → TypeData → Type 0

@@ -5,14 +5,14 @@ use Rattle.qk_core.specs.Program.{ProgramData}
 use Rattle.qk_core.specs.Properties.{PropertyData}
 use Rattle.qk_syntax.specs.PlainTrees.{PlainTree, name, list, PlainTrees, end, more}
 use Rattle.qk_types.specs.Bodies.{no_model}
-use Rattle.qk_types.specs.Drawing.{generator_of}
-use Rattle.qk_types.specs.Headers.{SignatureData, HeadersData}
-use Rattle.qk_types.specs.Names.{Declared, item_of}
-use Rattle.qk_types.specs.Operators.{Tables, function_of}
-use Rattle.qk_types.specs.Reserved.{Word}
-use Rattle.qk_types.specs.Scopes.{types_of}
-use Rattle.qk_types.specs.declared.names.Item.{Item}
-use Rattle.qk_types.specs.declared.names.Item.TheVariants as items
+use Rattle.qk_generators.specs.Drawing.{generator_of}
+use Rattle.qk_headers.specs.Headers.{SignatureData, HeadersData}
+use Rattle.qk_names.specs.Names.{Declared, item_of}
+use Rattle.qk_typing.specs.Operators.{Tables, function_of}
+use Rattle.qk_names.specs.Reserved.{Word}
+use Rattle.qk_headers.specs.Scopes.{types_of}
+use Rattle.qk_names.specs.declared.names.Item.{Item}
+use Rattle.qk_names.specs.declared.names.Item.TheVariants as items
 use Rattle.qk_wellformed.specs.AreBinders.{AreBinders}
 use Rattle.qk_wellformed.specs.AreClauses.{AreClauses}
 use Rattle.qk_wellformed.specs.AreHeaders.{AreHeaders}

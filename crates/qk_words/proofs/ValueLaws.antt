@@ -17,7 +17,7 @@ some_eq x y e = ap (λ o. unwrap_or o x) e
 pub number_is_digits : (text : List ℕ) → is_number text ≡ true → all_ascii_digits text ≡ true
 number_is_digits text h = (and_parts _ _ (and_parts _ _ h).1).1
 
-within_parts : (least greatest : ℕ) (v : List ℕ) → is_number_within least greatest v ≡ true → (is_number v ≡ true) × ((least ≤ number v) × (number v ≤ greatest))
+pub within_parts : (least greatest : ℕ) (v : List ℕ) → is_number_within least greatest v ≡ true → (is_number v ≡ true) × ((least ≤ number v) × (number v ≤ greatest))
 within_parts least greatest v h =
     let parts = and_parts (is_number v) (nat_le least (number v) && nat_le (number v) greatest) h in
     let sides = and_parts (nat_le least (number v)) (nat_le (number v) greatest) parts.1 in

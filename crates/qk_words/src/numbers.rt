@@ -24,7 +24,7 @@ fn is_number(text: &[u8]) -> bool
 }
 
 /// Whether the text is a number that is at least the one and at most the other.
-pub(crate) fn is_number_within(text: &[u8], least: u64, greatest: u64) -> bool
+pub fn is_number_within(text: &[u8], least: u64, greatest: u64) -> bool
     ensures { result ≡ is_number_within least greatest text.now }
 {
     if !is_number(text) {

@@ -1,9 +1,9 @@
-//! Worked examples of boards and layouts.
+//! Two seats of a board, in turn.
 ghost use Rattle.std.specs.Prelude.{◌≡◌, ◌+◌, ◌<◌, length, All, IfOk};
 ghost use Rattle.qk_board.specs.Seats.{IsSeatOf};
 
 use qk_base::{Memory, Seq};
-use qk_board::{Blocks, Board, BoardSeat, Claim, Closed, Layout, Strides};
+use qk_board::{Board, BoardSeat, Claim, Closed, Layout, Strides};
 use std::alloc::Global;
 use std::test::Fail;
 
@@ -83,48 +83,5 @@ fn two_seats(rt: HostRuntime) -> Result<(), Fail> {
         panic!(rt; "memory")
     }
     assert_eq!(rt; board.close(back), Closed { bound: 5, dry: 0 });
-    Ok(())
-}
-
-#[test]
-fn last_block(rt: HostRuntime) -> Result<(), Fail> {
-    let alloc = rt.alloc();
-    let Ok((board, mut seats)) = board_of(alloc, Blocks::make(10, 4), 1) else {
-        panic!(rt; "memory")
-    };
-    let mut seat = take_seat(&board, &mut seats);
-    assert!(rt; !seat.met_dry(3));
-    assert_eq!(rt; next(&board, &mut seat, 3), Claim::Number(9));
-    assert_eq!(rt; next(&board, &mut seat, 3), Claim::Dry);
-    assert!(rt; seat.met_dry(3) && !seat.met_dry(2) && !seat.met_dry(64));
-    let mut back = Seq::make(alloc);
-    if put_seat(&board, &mut back, seat).is_err() {
-        panic!(rt; "memory")
-    }
-    assert_eq!(rt; board.close(back), Closed { bound: 10, dry: 8 });
-    Ok(())
-}
-
-#[test]
-fn layouts(rt: HostRuntime) -> Result<(), Fail> {
-    let blocks = Blocks::make(10, 4);
-    let strides = Strides::make(10, 4);
-    let few = Blocks::make(2, 4);
-    for (range, block, stride, small) in [
-        (0, 3, 3, 1),
-        (1, 3, 3, 1),
-        (2, 3, 2, 0),
-        (3, 1, 2, 0),
-        (4, 0, 0, 0),
-    ] {
-        assert_eq!(rt; blocks.length(range), block, "blocks {range}");
-        assert_eq!(rt; strides.length(range), stride, "strides {range}");
-        assert_eq!(rt; few.length(range), small, "blocks of 2 {range}");
-    }
-    assert!(rt; strides.length(1) > 2 && blocks.length(3) > 0);
-    assert_eq!(rt; strides.number(1, 2), 9);
-    assert_eq!(rt; blocks.number(3, 0), 9);
-    assert_eq!(rt; (strides.limit(), strides.ranges()), (10, 4));
-    assert_eq!(rt; (blocks.limit(), blocks.ranges()), (10, 4));
     Ok(())
 }

@@ -7,7 +7,6 @@ ghost use Rattle.qk_path.specs.Walkers.{view_of, IsWalkerOf};
 use qk_base::{Family, Memory, Seq};
 use qk_path::{PathTable, Taken, Walker};
 use std::alloc::Global;
-use std::marker::{Send, Sync};
 use std::test::Fail;
 
 /// The number 16 with its candidates, under a property that fails for 16, 8 and 12.
@@ -132,10 +131,6 @@ fn look(table: &PathTable<'_, Sixteen>, walker: &mut Walker<Sixteen>) -> Option<
     table.look(walker)
 }
 
-fn goes_across<T: Sync, W: Send>(_shared: &T, _moved: &W) -> bool {
-    true
-}
-
 #[test]
 fn two_walkers(rt: HostRuntime) -> Result<(), Fail> {
     let alloc = rt.alloc();
@@ -143,7 +138,6 @@ fn two_walkers(rt: HostRuntime) -> Result<(), Fail> {
     let Ok((table, mut one, mut other)) = table_of(alloc, &Sixteen, &root, 10) else {
         panic!(rt; "memory")
     };
-    assert!(rt; goes_across(&table, &one));
     let (Some(zero), Some(first)) = (claim(&table, &mut one), claim(&table, &mut one)) else {
         panic!(rt; "done")
     };

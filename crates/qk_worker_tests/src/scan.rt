@@ -42,57 +42,36 @@ impl Jobs for Numbers {
     }
 }
 
-#[test]
-fn answers_end_with_the_first_hit(rt: HostRuntime) -> Result<(), Fail> {
-    for (count, hits, length) in [
-        (0, (NEVER, NEVER), 0),
-        (1, (NEVER, NEVER), 1),
-        (4, (1, 3), 2),
-        (4096, (0, 4095), 1),
-        (4096, (4095, NEVER), 4096),
-        (4096, (NEVER, NEVER), 4096),
-    ] {
-        for workers in [1, 2, 7, 64] {
-            let jobs = Numbers { count, hits };
-            let Ok(found) = scan(&rt, rt.alloc(), &OpenGate, &jobs, workers) else {
-                panic!(rt; "memory")
-            };
-            assert_eq!(rt; found.len(), length, "{count} jobs, {workers} workers");
-            for (place, answer) in found.as_slice().iter().enumerate() {
-                assert_eq!(rt; *answer as usize, place);
-            }
+// Whether these are the answers of the first jobs.
+fn are_first(answers: &[u32], length: usize) -> bool {
+    for (place, answer) in answers.iter().enumerate() {
+        if *answer as usize != place {
+            return false;
         }
     }
-    Ok(())
+    answers.len() == length
 }
 
+// A number of jobs, one that hits, and how many answers there are.
+const LENGTHS: [(u32, u32, usize); 6] = [
+    (0, NEVER, 0),
+    (3, NEVER, 3),
+    (200, 150, 151),
+    (4096, 0, 1),
+    (4096, 4095, 4096),
+    (4096, NEVER, 4096),
+];
+
 #[test]
-fn a_pace_changes_no_answer(rt: HostRuntime) -> Result<(), Fail> {
+fn answers_end_with_the_first_hit(rt: HostRuntime) -> Result<(), Fail> {
     for workers in [1, 2, 7, 64] {
         let mut pace = Pace::make(workers);
-        for (count, hit, length) in [
-            (200, NEVER, 200),
-            (200, 150, 151),
-            (3, NEVER, 3),
-            (4096, 4095, 4096),
-            (200, 0, 1),
-            (0, NEVER, 0),
-        ] {
-            let jobs = Numbers {
-                count,
-                hits: (hit, NEVER),
-            };
-            let Ok(found) = scan_paced(&rt, rt.alloc(), &OpenGate, &jobs, &mut pace) else {
-                panic!(rt; "memory")
-            };
-            assert_eq!(rt;
-                found.len(),
-                length,
-                "{count} jobs, {workers} workers at most"
-            );
-            for (place, answer) in found.as_slice().iter().enumerate() {
-                assert_eq!(rt; *answer as usize, place);
-            }
+        for (count, hit, length) in LENGTHS {
+            let hits = (hit, NEVER);
+            let jobs = Numbers { count, hits };
+            let found = scan(&rt, rt.alloc(), &OpenGate, &jobs, workers)?;
+            let paced = scan_paced(&rt, rt.alloc(), &OpenGate, &jobs, &mut pace)?;
+            assert!(rt; are_first(found.as_slice(), length) && are_first(paced.as_slice(), length));
         }
     }
     Ok(())

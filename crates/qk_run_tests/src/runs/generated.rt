@@ -1,6 +1,6 @@
 //! The generated file.
 
-use super::says;
+use super::{Row, all_say};
 use std::test::Fail;
 
 const EIGHT: &str = "generated: 8
@@ -14,18 +14,15 @@ properties: 1, passed 1, failed 0, gave up 0
 ";
 
 // Two whole rounds of four: 100 attempts, 600, 1 and 1 each; the flags that shrink or tell of work decide nothing.
-const GENERATED: [(&str, u8, &str); 5] = [
-    ("--generate 8", 1, EIGHT),
-    ("--generate=8 --greedy", 1, EIGHT),
-    ("--generate 8 --work", 1, EIGHT),
-    ("--generate 1", 0, ONE),
-    ("--generate 1001", 2, "usage: quicker [options] FILE\n"),
+const GENERATED: [Row; 5] = [
+    ("--generate 8", "", 1, EIGHT),
+    ("--generate=8 --greedy", "", 1, EIGHT),
+    ("--generate 8 --work", "", 1, EIGHT),
+    ("--generate 1", "", 0, ONE),
+    ("--generate 1001", "", 2, "usage: quicker [options] FILE\n"),
 ];
 
 #[test]
 fn generated_files(rt: HostRuntime) -> Result<(), Fail> {
-    for (words, status, text) in GENERATED {
-        says(&rt, words, "", status, text)?;
-    }
-    Ok(())
+    all_say(&rt, &GENERATED)
 }

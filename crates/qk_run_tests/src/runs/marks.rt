@@ -1,6 +1,6 @@
 //! Labels, classes, tables and covers of whole runs.
 
-use super::says;
+use super::{Row, all_say, says};
 use std::alloc::Global;
 use std::test::Fail;
 
@@ -19,11 +19,6 @@ cover one: 0 of 100, wanted 50%, not met
 properties: 2, passed 1, failed 1, gave up 0
 ";
 
-#[test]
-fn a_cover_that_is_not_met(rt: HostRuntime) -> Result<(), Fail> {
-    says(&rt, "f", COVERS, 1, COVERS_REPORT)
-}
-
 const MARKS: &str = "(prop a (forall ((x size)) (check true)
   (classify (< x 50) small) (tabulate parity (mod x 2)) (label seen) (classify (< x 0) none) (cover 60 (< x 50) small)))";
 
@@ -39,9 +34,20 @@ cover small: 50 of 100, wanted 60%, not met
 properties: 1, passed 1, failed 0, gave up 0
 ";
 
+const RUNS: [Row; 3] = [
+    ("f", COVERS, 1, COVERS_REPORT),
+    ("f", MARKS, 0, MARKS_REPORT),
+    (
+        "--success 1 --ratio 1 f",
+        "(prop a (forall ((x int)) (given false) (check true)))",
+        1,
+        "a: gave up after 0 tests, 1 discarded\nproperties: 1, passed 0, failed 0, gave up 1\n",
+    ),
+];
+
 #[test]
 fn marks_of_every_kind(rt: HostRuntime) -> Result<(), Fail> {
-    says(&rt, "f", MARKS, 0, MARKS_REPORT)
+    all_say(&rt, &RUNS)
 }
 
 // Two rounds of the sizes 0 to 99, and then 0, 2, 4 and so on: even numbers came up three times, odd ones twice.
@@ -96,14 +102,3 @@ fn even_sizes(rt: HostRuntime) -> Result<(), Fail> {
 
 const TWICE: &str =
     "10 12 14 16 18 2 20 22 24 26 28 30 32 34 36 38 4 40 42 44 46 48 50 52 54 56 58 6 60 62 64 66 68 70 72 74 76 78 8 80 82 84 86 88 90 92 94 96 98";
-
-#[test]
-fn giving_up_soon(rt: HostRuntime) -> Result<(), Fail> {
-    says(
-        &rt,
-        "--success 1 --ratio 1 f",
-        "(prop a (forall ((x int)) (given false) (check true)))",
-        1,
-        "a: gave up after 0 tests, 1 discarded\nproperties: 1, passed 0, failed 0, gave up 1\n",
-    )
-}

@@ -1,6 +1,6 @@
 //! Replay tokens.
 
-use super::says;
+use super::{Row, all_say};
 use std::test::Fail;
 
 const EIGHT: &str = "(prop a (forall ((x (choose 8 8))) (check (< x 5))))";
@@ -15,7 +15,7 @@ replay: q1:0:0:0:0:100000:2.2
 ";
 
 // Words, the file, the status and the text.
-const REPLAYS: [(&str, &str, u8, &str); 12] = [
+const REPLAYS: [Row; 12] = [
     ("--replay q1:0:0:0:0:100000:2.2 f", EIGHT, 1, REPLAYED),
     (
         "f --replay=q1:0:0:0:0:100000:2.2 --greedy",
@@ -62,8 +62,5 @@ const REPLAYS: [(&str, &str, u8, &str); 12] = [
 
 #[test]
 fn replays(rt: HostRuntime) -> Result<(), Fail> {
-    for (words, file, status, text) in REPLAYS {
-        says(&rt, words, file, status, text)?;
-    }
-    Ok(())
+    all_say(&rt, &REPLAYS)
 }

@@ -101,38 +101,6 @@ fn nine_pairs(rt: HostRuntime) -> Result<(), Fail> {
     Ok(())
 }
 
-const SWEEP: [&str; 5] = [
-    "--workers 1 --window 1 f",
-    "--workers 1 --window 4096 f",
-    "--workers 2 --window 8 f",
-    "--workers 7 f",
-    "--workers 64 --window 16 f",
-];
-
-const SWEPT: [&str; 3] = [
-    SKIPS,
-    "(prop a (forall ((x size)) (check true) (collect (mod x 7)) (cover 90 (< x 50) small)))",
-    "(prop a (forall ((x int) (y int)) (check (< (+ x y) 40)) (classify (< x y) less)))",
-];
-
-// The same bytes for every number of workers and every window.
-fn sweeps<R: Threads + Sync + Abort + AllocGlobal>(rt: &R, file: &str) -> Result<(), Fail> {
-    let first = written(rt, "f", file, &OpenGate)?;
-    for words in SWEEP {
-        let said = written(rt, words, file, &OpenGate)?;
-        assert_eq!(rt; said.as_str(), first.as_str(), "{words} {file}");
-    }
-    Ok(())
-}
-
-#[test]
-fn the_same_bytes(rt: HostRuntime) -> Result<(), Fail> {
-    for file in SWEPT {
-        sweeps(&rt, file)?;
-    }
-    Ok(())
-}
-
 // The line on work is that of the window also where the first trials are let in by an order of their own.
 #[test]
 fn trials_in_a_forced_order(rt: HostRuntime) -> Result<(), Fail> {

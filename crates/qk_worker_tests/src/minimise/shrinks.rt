@@ -2,7 +2,6 @@
 ghost use Rattle.std.specs.Prelude.{◌≡◌, ◌<◌, ◌≤◌, ◌==◌, ◌||◌, true, cond, nat_eq, [], ◌∷◌, ⊤};
 
 use super::Halves;
-use super::plain::slow_descent;
 use qk_base::{Family, Memory, OpenGate, OrderGate, Seq};
 use qk_minimise::{Minimum, greedy, walk};
 use qk_path::{ClosedPath, PathTable};
@@ -56,36 +55,6 @@ fn is_by(minimum: &Minimum<u64>, path: &[u64], point: u64) -> bool {
 }
 
 #[test]
-fn either_of_two_minima(rt: HostRuntime) -> Result<(), Fail> {
-    let three = Halves {
-        least: 16,
-        more: (8, 12),
-    };
-    for workers in [1, 2, 7, 64] {
-        let found = greedy(&rt, rt.alloc(), &OpenGate, &three, 16, 1024, workers)?;
-        assert!(rt; is_by(&found, &[1], 8) || is_by(&found, &[2], 12));
-        assert!(rt; !found.limit_met);
-    }
-    Ok(())
-}
-
-#[test]
-fn the_limit_ends_a_shrink(rt: HostRuntime) -> Result<(), Fail> {
-    let five = Halves {
-        least: 5,
-        more: (5, 5),
-    };
-    for workers in [1, 2, 7, 64] {
-        let one = greedy(&rt, rt.alloc(), &OpenGate, &five, 8, 1, workers)?;
-        assert!(rt; is_by(&one, &[2], 6) || is_by(&one, &[3], 7));
-        assert!(rt; one.limit_met);
-        let none = greedy(&rt, rt.alloc(), &OpenGate, &five, 8, 0, workers)?;
-        assert!(rt; is_by(&none, &[], 8) && none.limit_met);
-    }
-    Ok(())
-}
-
-#[test]
 fn walkers_do_not_wait_between_levels(rt: HostRuntime) -> Result<(), Fail> {
     let mut order = Seq::make(rt.alloc());
     order.append(&[1, 2, 0])?;
@@ -120,32 +89,17 @@ fn walk_alone<F: Family>(
 
 #[test]
 fn one_walker_descends(rt: HostRuntime) -> Result<(), Fail> {
-    for (least, more, start, limit) in [
-        (31, (31, 31), 31, 1024),
-        (16, (8, 12), 16, 10),
-        (16, (8, 12), 31, 1024),
-        (5, (5, 5), 31, 2),
-        (5, (5, 5), 31, 0),
-        (0, (0, 0), 31, 1024),
+    for (least, more, start, limit, path, met) in [
+        (31, (31, 31), 31, 1024, [].as_slice(), false),
+        (16, (8, 12), 16, 10, [1].as_slice(), false),
+        (5, (5, 5), 31, 2, [1, 1].as_slice(), true),
+        (5, (5, 5), 31, 0, [].as_slice(), true),
+        (0, (0, 0), 31, 1024, [0].as_slice(), false),
     ] {
         let halves = Halves { least, more };
-        let slow = slow_descent(rt.alloc(), &halves, start, limit)?;
         let (closed, done) = walk_alone(rt.alloc(), &halves, &start, limit)?;
-        assert_eq!(rt; closed.path.as_slice(), slow.path.as_slice());
-        assert_eq!(rt; (closed.limit_met, done), (slow.limit_met, !slow.limit_met));
+        assert_eq!(rt; closed.path.as_slice(), path);
+        assert_eq!(rt; (closed.limit_met, done), (met, !met));
     }
-    Ok(())
-}
-
-// From 16 by at most 10 steps: 8 fails, and no candidate of it does.
-#[test]
-fn one_walker_is_done(rt: HostRuntime) -> Result<(), Fail> {
-    let three = Halves {
-        least: 16,
-        more: (8, 12),
-    };
-    let (closed, done) = walk_alone(rt.alloc(), &three, &16, 10)?;
-    assert_eq!(rt; closed.path.as_slice(), [1].as_slice());
-    assert!(rt; done && !closed.limit_met);
     Ok(())
 }

@@ -1,5 +1,6 @@
 use Rattle.std.proofs.Common.{List, ℕ, subst}
-use Rattle.qk_engine.specs.Reply.{FileReply, program_reply}
+use Rattle.qk_file.specs.Files.{FileReply}
+use Rattle.qk_engine.specs.Reply.{program_reply}
 use Rattle.qk_engine.specs.Settings.{settings_told}
 use Rattle.qk_engine.proofs.Replies.{file_is_reply, loaded_says, run_is_short, runnable_is_run, tells_all}
 use Rattle.qk_words.specs.SettingsData.{settings_in}

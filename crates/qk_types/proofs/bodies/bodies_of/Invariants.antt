@@ -3,7 +3,7 @@ use Rattle.std.proofs.Common.{◌≡◌, ◌≤◌, drop}
 use Rattle.qk_syntax.specs.View.{views}
 use Rattle.qk_types.specs.Bodies.{bodies_of, bodies_after}
 use Rattle.qk_types.specs.DraftView.{draft_in, size_of}
-use Rattle.qk_types.specs.TablesView.{tables_in}
+use Rattle.qk_typing.specs.TablesView.{tables_in}
 use Rattle.qk_types.proofs.bodies.bodies_of.Given as goal
 
 abbrev pub invariant-loop-tree : goal.invariant-loop-tree

@@ -2,9 +2,9 @@ use Rattle.std.proofs.Common.{ap, Some}
 use Rattle.qk_syntax.specs.View.{views}
 use Rattle.qk_types.specs.Bodies.{item_body}
 use Rattle.qk_types.specs.DraftView.{draft_in}
-use Rattle.qk_types.specs.TablesView.{tables_in}
-use Rattle.qk_types.specs.declared.names.Item.TheVariants as items
-use Rattle.qk_types.proofs.Following.{on_ok_at, refused_at}
+use Rattle.qk_typing.specs.TablesView.{tables_in}
+use Rattle.qk_names.specs.declared.names.Item.TheVariants as items
+use Rattle.qk_names.proofs.Following.{on_ok_at, refused_at}
 use Rattle.qk_types.proofs.bodies.item_body.Goals as goal
 
 pub returns-in-Function-clause-ok : goal.returns-in-Function-clause-ok

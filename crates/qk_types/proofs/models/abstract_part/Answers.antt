@@ -1,8 +1,8 @@
 use Rattle.std.proofs.Common.{rules}
-use Rattle.qk_types.specs.TablesView.{tables_in}
-use Rattle.qk_types.proofs.Following.{refused_there}
-use Rattle.qk_types.proofs.Parts.{under, over}
-use Rattle.qk_types.proofs.WrongCounts.{abstract_apart}
+use Rattle.qk_typing.specs.TablesView.{tables_in}
+use Rattle.qk_names.proofs.Following.{refused_there}
+use Rattle.qk_headers.proofs.Parts.{under, over}
+use Rattle.qk_types.proofs.WrongBodies.{abstract_apart}
 use Rattle.qk_types.proofs.models.abstract_part.Goals as goal
 use Rattle.qk_types.proofs.models.abstract_part.Goals.{in_default-via-then-parts-lt5, in_default-via-else-parts-lt5+else-parts-lt6}
 

@@ -1,4 +1,4 @@
-use Rattle.qk_types.specs.Headers.{no_headers}
+use Rattle.qk_headers.specs.Headers.{no_headers}
 use Rattle.qk_wellformed.proofs.HeadersStand.{headers_stand, headers_given}
 use Rattle.qk_wellformed.proofs.laws.headers_stand.Goals as goal
 

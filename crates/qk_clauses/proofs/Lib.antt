@@ -1,0 +1,2 @@
+pub mod DrawForms
+pub mod WrongCounts

@@ -1,0 +1,2 @@
+pub mod EnumReplies
+pub mod WordsReplies

@@ -1,0 +1,4 @@
+pub mod CaseLaws
+pub mod PropertiesLeft
+pub mod Sends
+pub mod WalkLaws

@@ -1,0 +1,9 @@
+pub mod Steps
+pub mod ClapWalk
+pub mod Taken
+pub mod Matched
+pub mod ValueLaws
+pub mod KeyLaws
+pub mod WalkLaws
+pub mod GivenLaws
+pub mod OneAnswer

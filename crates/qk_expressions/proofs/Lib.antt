@@ -1,0 +1,3 @@
+pub mod NilForms
+pub mod CaseLaws
+pub mod ExpressionForms

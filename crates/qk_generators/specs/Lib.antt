@@ -1,0 +1,5 @@
+pub mod Drawing
+pub mod DrawingView
+pub mod GenHeads
+pub mod GenSteps
+pub mod Generators

@@ -1,0 +1,4 @@
+pub mod Checks
+pub mod NameTable
+pub mod Names
+pub mod Reserved

@@ -1,7 +1,0 @@
-use Rattle.qk_value.specs.View.{view_type}
-use Rattle.qk_value.proofs.TypeLaws.{same_iff}
-use Rattle.qk_types.proofs.Following.{same_truth}
-use Rattle.qk_types.proofs.checking.is_same.Goals as goal
-
-pub returns : goal.returns
-returns c = same_truth _ _ c.equal.ensures (same_iff (view_type c.args.a.now) (view_type c.args.b.now))

@@ -1,9 +1,0 @@
--- What is left decides as the whole does.
-use Rattle.std.proofs.Common.{◌≡◌, drop, map}
-use Rattle.qk_types.specs.Drawing.{draws_agree}
-use Rattle.qk_types.specs.TablesView.{drawn_in}
-use Rattle.qk_value.specs.View.{view_type}
-use Rattle.qk_types.proofs.drawn_types.draws_agree.Given as goal
-
-abbrev pub invariant-loop-part : goal.invariant-loop-part
-invariant-loop-part l = draws_agree (view_type l.ty) (map drawn_in l.parts) ≡ draws_agree (view_type l.ty) (map drawn_in (drop l.part-index l.parts))

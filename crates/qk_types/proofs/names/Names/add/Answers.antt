@@ -1,6 +1,0 @@
-use Rattle.qk_types.proofs.NameTables.{inserted}
-use Rattle.qk_types.proofs.names.Names.add.Goals as goal
-
-pub returns : goal.returns
-returns c =
-    inserted (λ k. k.items) c.args.self.now.table c.in_ok-key.key c.args.named c.args.name.now c.insert.new.self.entries c.in_ok-insert.ensures.entries c.in_ok-key.ensures.items c.requires

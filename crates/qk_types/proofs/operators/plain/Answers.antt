@@ -1,5 +1,0 @@
-use Rattle.qk_types.proofs.Applying.{taken}
-use Rattle.qk_types.proofs.operators.plain.Goals as goal
-
-pub returns : goal.returns
-returns c = taken c.reversed.result c.args.parts.items c.loop-part.parts.items c.loop-part.backward.items c.reversed.ensures c.loop-part.invariant c.in_default.ensures.0

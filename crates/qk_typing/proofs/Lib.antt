@@ -1,0 +1,4 @@
+pub mod TypeChecks
+pub mod Forms
+pub mod ScopeLaws
+pub mod Applying

@@ -1,0 +1,4 @@
+pub mod HeadForms
+pub mod Operators
+pub mod PartsView
+pub mod TablesView

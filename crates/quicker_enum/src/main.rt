@@ -1,0 +1,25 @@
+//! `quicker_enum FILE`: judges the properties of a file in all cases up to a depth, and prints the report.
+#![tactic(auto)]
+
+use qk_adapters::{FileLibrary, OutSink, word_list};
+use qk_base::OpenGate;
+use qk_enum::run_enum;
+use std::process::ExitCode;
+
+fn main(rt: HostRuntime) -> ExitCode {
+    let words = match word_list(&rt) {
+        Ok(words) => words,
+        Err(status) => return ExitCode::from(status.number()),
+    };
+    let mut library = FileLibrary::make(&rt);
+    let mut sink = OutSink::make(&rt);
+    let status = run_enum(
+        &rt,
+        rt.alloc(),
+        words.as_slice(),
+        &mut library,
+        &mut sink,
+        &OpenGate,
+    );
+    ExitCode::from(status.number())
+}
