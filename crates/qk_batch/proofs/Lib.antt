@@ -1,0 +1,5 @@
+pub mod Facts
+pub mod FileReplies
+pub mod MadeStatuses
+pub mod Placed
+pub mod WordsReplies

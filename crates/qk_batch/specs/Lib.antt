@@ -1,0 +1,4 @@
+pub mod Statuses
+pub mod Reply
+pub mod Blocks
+pub mod Feeding
