@@ -2,3 +2,4 @@ pub mod Statuses
 pub mod Reply
 pub mod Blocks
 pub mod Feeding
+pub mod Laws

@@ -26,24 +26,31 @@ pub struct Runs<'a, R, G> {
 }
 
 impl<R: Threads + Sync, G: Gate> Task for Runs<'_, R, G> {
-    ghost use Rattle.std.specs.Prelude.{map, string_bytes, ⊤};
+    ghost use Rattle.std.specs.Prelude.{map, string_bytes, All};
     ghost use Rattle.qk_batch.specs.Feeding.{IsBlockAt};
+    ghost use Rattle.qk_batch_words.specs.Accepted.{IsCallFor};
 
     type Answer = Block;
 
-    ghost ready = { λ runs. ⊤ };
+    ghost ready = { λ runs. All (IsCallFor (map string_bytes runs.options.now)) (map string_bytes runs.names.now) };
 
     ghost answers = { λ runs number input block. IsBlockAt (map string_bytes runs.options.now) (map string_bytes runs.names.now) number input block };
 
+    // A number behind the last name has a block of nothing.
     fn perform(&self, number: u32, input: &Bytes) -> Result<Block, Memory> {
         self.gate.enter(number);
+        if number as usize >= self.names.len() {
+            return Ok(Block {
+                status: Status::AllPassed,
+                text: Bytes::make(self.alloc),
+            });
+        }
         let name = name_of(self.names, number);
         run_file(self.rt, self.alloc, self.options, name, input.as_slice())
     }
 }
 
-// The run of a file of which these bytes were loaded: all, or as many as a file may have and one more. Options that do not fit the
-// name, which accepted words do not have, are taken for want of memory.
+// The run of a file of which these bytes were loaded: all, or as many as a file may have and one more.
 fn run_file<R: Threads + Sync>(
     rt: &R,
     alloc: Global,
@@ -51,11 +58,12 @@ fn run_file<R: Threads + Sync>(
     name: &str,
     bytes: &[u8],
 ) -> Result<Block, Memory>
-    ensures { IfOk result (λ block. IsCallFor (map string_bytes options.now) name.now → (whole : List ℕ) → bytes.now ≡ take 1048577 whole → Replies (map string_bytes options.now ++ name.now ∷ []) whole block.status block.text.items) }
+    requires { IsCallFor (map string_bytes options.now) name.now }
+    ensures { IfOk result (λ block. (all : List ℕ) → bytes.now ≡ take 1048577 all → Replies (map string_bytes options.now ++ name.now ∷ []) all block.status block.text.items) }
 {
     let words = call_words(alloc, options, name)?;
     match read_call(alloc, words.as_slice(), name)? {
-        None => Err(Memory),
+        None => unreachable!(),
         Some(settings) => run_alone(rt, alloc, &settings, name, bytes),
     }
 }
