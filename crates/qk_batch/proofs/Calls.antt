@@ -22,27 +22,29 @@ named_aim (replayed token file) name = false
 named_aim (generated n) name = false
 
 aims_there : (a : AimData) (name : Text) → named_aim a name ≡ true → a ≡ whole name
+unfolding named_aim
 aims_there (whole file) name e = ap whole ((bytes_eq-Decides file name).0 e)
 aims_there (replayed token file) name e = absurd (true≢false (sym e))
 aims_there (generated n) name e = absurd (true≢false (sym e))
 
 there_is_aimed : (name : Text) → named_aim (whole name) name ≡ true
+unfolding named_aim
 there_is_aimed name = (bytes_eq-Decides name name).1 refl
 
 module _ (words : List Text) (name : Text) where
   by_aim : (d : SettingsData) → AreSettings words d → (b : Bool) → named_aim d.aim name ≡ b → Decided (GivesFile words name)
   by_aim d are true e = inl (d, are, aims_there d.aim name e)
   by_aim d are false e = inr (λ gives.
-    let same : d ≡ gives.0 = one_settings words d gives.0 are gives.1.0 in
-    true≢false (sym (there_is_aimed name) ∙ ap (λ (a : AimData). named_aim a name) (sym (ap (λ (x : SettingsData). x.aim) same ∙ gives.1.1)) ∙ e))
+      let same : d ≡ gives.0 = one_settings words d gives.0 are gives.1 in
+      true≢false (sym (there_is_aimed name) ∙ ap (λ (a : AimData). named_aim a name) (sym (ap (λ (x : SettingsData). x.aim) same ∙ gives.2)) ∙ e))
 
   by_reply : (s : Status) (text : List ℕ) → Replies words [] s text → Decided (GivesFile words name)
-  by_reply s text (inl (never, e, is)) = inr (λ gives. never (gives.1.0.0, gives.1.0.1.0))
-  by_reply s text (inr (inl (bad, e, is))) = inr (λ gives. no_bad_token words gives.0 gives.1.0 bad)
+  by_reply s text (inl (never, e, is)) = inr (λ gives. never (gives.1.0, gives.1.1.0))
+  by_reply s text (inr (inl (bad, e, is))) = inr (λ gives. no_bad_token words gives.0 gives.1 bad)
   by_reply s text (inr (inr (d, are, said))) = by_aim d are (named_aim d.aim name) refl
 
   pub call_is_decided : Decided (GivesFile words name)
-  call_is_decided = let some = some_reply words [] in by_reply some.0 some.1.0 some.1.1
+  call_is_decided = let some = some_reply words [] in by_reply some.0 some.1 some.2
 
 module _ {X : Type 0} (P : X → Type 0) where
   pub all_of_none : All P []
@@ -76,8 +78,8 @@ module _ (words : List Text) where
   pub words_are_decided : Decided (IsAccepted words)
   words_are_decided = elim (cases_lt 0 (length (names_of words))) as (λ _. Decided (IsAccepted words)) [
     | inl some ↦ elim (cases_lt (length (names_of words)) 257) as (λ _. Decided (IsAccepted words)) [
-        | inl few ↦ by_each some (omega (arith, few)) (calls_are_decided (options_of words) (names_of words))
-        | inr many ↦ inr (λ accepted. let few = accepted.few in omega (arith, many, few))
-      ]
+      | inl few ↦ by_each some (omega (arith, few)) (calls_are_decided (options_of words) (names_of words))
+      | inr many ↦ inr (λ accepted. let few = accepted.few in omega (arith, many, few))
+    ]
     | inr none ↦ inr (λ accepted. let some = accepted.some in omega (arith, none, some))
   ]

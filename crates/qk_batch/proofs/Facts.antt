@@ -16,6 +16,12 @@ behind_all (x ∷ xs) zero d le = absurd (omega (arith, le))
 behind_all (x ∷ xs) (suc i) d le = behind_all xs i d (omega (arith, le))
 
 module _ {X : Type 0} where
+  -- what stands in a list does not depend on what stands behind it
+  pub any_default : (xs : List X) (i : ℕ) (d e : X) → i < length xs → slice_index_or xs i d ≡ slice_index_or xs i e
+  any_default [] i d e within = absurd (omega (arith, within))
+  any_default (x ∷ xs) zero d e within = refl
+  any_default (x ∷ xs) (suc i) d e within = any_default xs i d e (omega (arith, within))
+
   pub stands_at : (n : ℕ) (xs : List X) (x : X) (rest : List X) (d : X) → drop n xs ≡ x ∷ rest → slice_index_or xs n d ≡ x
   stands_at zero xs x rest d e = ap (λ (l : List X). slice_index_or l 0 d) e
   stands_at (suc n) [] x rest d e = absurd (cc)

@@ -13,7 +13,7 @@ use Rattle.qk_pool.specs.Workers.{IsRight}
 
 module _ (options names : List (List ℕ)) (holds : List ℕ → Option (List ℕ)) (bytes : List ℕ → List ℕ)
     (tells : (name : List ℕ) → Contains names name → holds name ≡ Some (bytes name)) where
-  inputs : ℕ → Option (List ℕ)
+  abbrev pub inputs : ℕ → Option (List ℕ)
   inputs n = option_map (take 1048577) (holds (name_at names n))
 
   pub replies_placed : (rest : List (List ℕ)) (k : ℕ) (bs : List Block) → drop k names ≡ rest → length rest ≡ length bs

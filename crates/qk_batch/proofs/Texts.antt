@@ -19,14 +19,14 @@ some_replies options bytes [] = ([], tt)
 some_replies options bytes (n ∷ ns) =
     let said = some_reply (options ++ n ∷ []) (bytes n) in
     let rest = some_replies options bytes ns in
-    (record { status = said.0; text = said.1.0 } ∷ rest.0, (said.1.1, rest.1))
+    (record { status = said.0; text = said.1 } ∷ rest.0, (said.2, rest.1))
 
 module _ (words : List Text) (bytes : List ℕ → List ℕ) where
   by_words : Decided (IsAccepted words) → (s : Status) × (text : List ℕ) × Replies words bytes s text
   by_words (inl accepted) =
       let rs = some_replies (options_of words) bytes (names_of words) in
-      (greatest rs.0, blocks (names_of words) rs.0, inr (accepted, (rs.0, (rs.1, (refl, refl)))))
-  by_words (inr not) = (status.Usage, usage, inl (not, (refl, refl)))
+      (greatest rs.0, blocks (names_of words) rs.0, inr (accepted, (rs.0, rs.1, refl, refl)))
+  by_words (inr not) = (status.Usage, usage, inl (not, refl, refl))
 
   pub some_text : (s : Status) × (text : List ℕ) × Replies words bytes s text
   some_text = by_words (words_are_decided words)
@@ -34,11 +34,11 @@ module _ (words : List Text) (bytes : List ℕ → List ℕ) where
 module _ (options others : List Text)
     (differ : (name : Text) (d : SettingsData) → AreSettings (options ++ name ∷ []) d → (n : ℕ) × AreSettings (others ++ name ∷ []) (with_workers n d)) where
   other_call : (name : Text) → IsCallFor options name → IsCallFor others name
-  other_call name call = let other = differ name call.0 call.1.0 in (with_workers other.0 call.0, other.1, call.1.1)
+  other_call name call = let other = differ name call.0 call.1 in (with_workers other.0 call.0, other.1, call.2)
 
   other_reply : (name bytes : List ℕ) (s : Status) (text : List ℕ) → IsCallFor options name → one.Replies (options ++ name ∷ []) bytes s text → one.Replies (others ++ name ∷ []) bytes s text
-  other_reply name bytes s text call (inl (never, e, is)) = absurd (never (call.1.0.0, call.1.0.1.0))
-  other_reply name bytes s text call (inr (inl (bad, e, is))) = absurd (no_bad_token (options ++ name ∷ []) call.0 call.1.0 bad)
+  other_reply name bytes s text call (inl (never, e, is)) = absurd (never (call.1.0, call.1.1.0))
+  other_reply name bytes s text call (inr (inl (bad, e, is))) = absurd (no_bad_token (options ++ name ∷ []) call.0 call.1 bad)
   other_reply name bytes s text call (inr (inr (d, are, said))) = let other = differ name d are in inr (inr (with_workers other.0 d, other.1, said))
 
   other_calls : (names : List Text) → All (IsCallFor options) names → All (IsCallFor others) names
@@ -55,7 +55,7 @@ module _ (words others : List Text) (bytes : List ℕ → List ℕ) (s : Status)
   other_text : IsText (options_of words) (names_of words) bytes s text → IsText (options_of others) (names_of others) bytes s text
   other_text said =
       subst (λ (ns : List Text). IsText (options_of others) ns bytes s text) differ.0
-      (said.0, (other_replies (options_of words) (options_of others) differ.1 bytes (names_of words) said.0 accepted.each said.1.0, said.1.1))
+      (said.0, other_replies (options_of words) (options_of others) differ.1 bytes (names_of words) said.0 accepted.each said.1, said.2, said.3)
 
   other_words : IsAccepted others
   other_words = record {

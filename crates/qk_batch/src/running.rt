@@ -27,12 +27,13 @@ pub struct Runs<'a, R, G> {
 
 impl<R: Threads + Sync, G: Gate> Task for Runs<'_, R, G> {
     ghost use Rattle.std.specs.Prelude.{map, string_bytes, All};
+    ghost use Rattle.std.specs.Thread.{IsSync};
     ghost use Rattle.qk_batch.specs.Feeding.{IsBlockAt};
     ghost use Rattle.qk_batch_words.specs.Accepted.{IsCallFor};
 
     type Answer = Block;
 
-    ghost ready = { λ runs. All (IsCallFor (map string_bytes runs.options.now)) (map string_bytes runs.names.now) };
+    ghost ready = { λ runs. IsSync R.row × All (IsCallFor (map string_bytes runs.options.now)) (map string_bytes runs.names.now) };
 
     ghost answers = { λ runs number input block. IsBlockAt (map string_bytes runs.options.now) (map string_bytes runs.names.now) number input block };
 
