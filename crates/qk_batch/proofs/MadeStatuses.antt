@@ -1,5 +1,5 @@
 -- The status of a batch that was made: that of its files, or that of words that are not accepted.
-use Rattle.std.proofs.Common.{◌≡◌, ◌∙◌, ◌⊎◌, Bool, true, false, sym, ap, subst, inl, inr, true≢false}
+use Rattle.std.proofs.Common.{◌≡◌, ◌∙◌, ◌⊎◌, true, sym, ap, subst, inl, inr, true≢false}
 use Rattle.qk_base.specs.declared.status.Status.{Status}
 use Rattle.qk_base.specs.declared.status.Status.TheVariants as status
 use Rattle.qk_batch.specs.Statuses.{is_of_file}

@@ -1,5 +1,5 @@
 -- Blocks in their places are replies to the files.
-use Rattle.std.proofs.Common.{◌≡◌, ◌∙◌, ℕ, suc, ◌<◌, List, [], ◌∷◌, ◌++◌, Option, Some, option_map, take, drop, length, map, arith, refl, sym, ap, subst}
+use Rattle.std.proofs.Common.{◌≡◌, ◌∙◌, ℕ, suc, ◌<◌, List, [], ◌∷◌, ◌++◌, Option, Some, option_map, take, drop, length, map, arith, refl, ap, subst}
 use Rattle.std.specs.List.{Contains}
 use Rattle.qk_batch.specs.declared.block.Block.{Block}
 use Rattle.qk_batch.specs.Blocks.{reply_in}

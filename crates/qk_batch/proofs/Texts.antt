@@ -1,5 +1,5 @@
 -- Texts exist, and workers decide nothing of them.
-use Rattle.std.proofs.Common.{◌≡◌, ◌⊎◌, ℕ, ◌≤◌, ◌<◌, List, [], ◌∷◌, ◌++◌, length, All, refl, sym, subst, inl, inr}
+use Rattle.std.proofs.Common.{ℕ, ◌≤◌, ◌<◌, List, [], ◌∷◌, ◌++◌, length, All, refl, subst, inl, inr}
 use Rattle.qk_base.specs.declared.status.Status.{Status}
 use Rattle.qk_base.specs.declared.status.Status.TheVariants as status
 use Rattle.qk_batch.specs.Laws.{DifferInWorkers}

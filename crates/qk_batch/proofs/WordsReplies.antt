@@ -1,5 +1,5 @@
 -- Replies to the words of a batch, from those to its options and names.
-use Rattle.std.proofs.Common.{◌≡◌, ◌∙◌, ℕ, ◌<◌, ◌≤◌, List, Option, Some, All, length, map, sym, ap, subst, inl, inr}
+use Rattle.std.proofs.Common.{◌≡◌, ℕ, List, Option, Some, All, sym, subst, inr}
 use Rattle.std.specs.List.{Contains}
 use Rattle.qk_base.specs.declared.status.Status.{Status}
 use Rattle.qk_batch.specs.Reply.{IsText, Names, Replies, Tells}

@@ -1,4 +1,3 @@
-use Rattle.std.proofs.Common.{◌≡◌, List, ℕ}
 use Rattle.qk_batch.proofs.FileReplies.{content_of, loaded_says, whole_of_file}
 use Rattle.qk_words.specs.SettingsData.{settings_in}
 use Rattle.qk_batch.proofs.running.run_alone.Goals as goal

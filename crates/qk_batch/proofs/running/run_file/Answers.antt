@@ -1,4 +1,4 @@
-use Rattle.std.proofs.Common.{◌≡◌, ◌∙◌, ℕ, List, [], ◌∷◌, ◌++◌, Option, IfSome, map, string_bytes, sym, ap, subst, inr}
+use Rattle.std.proofs.Common.{◌≡◌, ◌∙◌, ℕ, List, [], ◌∷◌, ◌++◌, Option, IfSome, map, string_bytes, ap, subst, inr}
 use Rattle.qk_batch.proofs.Facts.{ok_more}
 use Rattle.qk_words.specs.declared.settings.Settings.{Settings}
 use Rattle.qk_words.specs.Given.{AreSettings}

@@ -1,4 +1,4 @@
-use Rattle.std.proofs.Common.{◌≡◌, ℕ, List, ◌++◌, map, string_bytes}
+use Rattle.std.proofs.Common.{map, string_bytes}
 use Rattle.qk_batch.proofs.Facts.{ok_more}
 use Rattle.qk_batch.proofs.WordsReplies.{each_is_call, said_of_words}
 use Rattle.qk_batch.proofs.top.made_for_words.Goals as goal

@@ -1,4 +1,4 @@
-use Rattle.std.proofs.Common.{rules, ◌≡◌, ◌⊎◌, List, ℕ, map, string_bytes, take, inl, inr, subst}
+use Rattle.std.proofs.Common.{rules, List, ℕ, map, string_bytes, take, inl, subst}
 use Rattle.qk_base.specs.Gains.{Gains}
 use Rattle.qk_batch.proofs.MadeStatuses.{accepted_is_of_file, made_is_reply, refusal_is_usage, usage_refuses}
 use Rattle.qk_batch_words.specs.Accepted.{IsAccepted}

@@ -1,5 +1,4 @@
-use Rattle.std.proofs.Common.{◌≡◌, ◌∙◌, List, ℕ, Option, Some, map, string_bytes, option_map, take, sym, ap, subst}
-use Rattle.qk_base.specs.Faults.{HasRisen}
+use Rattle.std.proofs.Common.{◌∙◌, map, string_bytes, option_map, take, ap}
 use Rattle.qk_batch.specs.Feeding.{name_at}
 use Rattle.qk_batch.proofs.Facts.{ok_more, told_of}
 use Rattle.qk_batch.proofs.feeding.FilesFeed.next.Goals as goal

@@ -1,4 +1,4 @@
-use Rattle.std.proofs.Common.{◌≡◌, ◌∙◌, ℕ, List, [], ◌∷◌, ◌++◌, map, string_bytes, arith, sym, subst}
+use Rattle.std.proofs.Common.{◌∙◌, ℕ, List, [], ◌∷◌, ◌++◌, map, string_bytes, arith, sym, subst}
 use Rattle.std.proofs.lemmas.List.{length-map}
 use Rattle.qk_batch.proofs.Facts.{ok_more}
 use Rattle.qk_batch_words.specs.Accepted.{IsCallFor}
