@@ -1,0 +1,4 @@
+pub mod Candidates
+pub mod Programs
+pub mod Typing
+pub mod ValueTypes
