@@ -1,10 +1,9 @@
 -- The candidates of typed values are typed.
-use Rattle.std.proofs.Common.{◌≡◌, ℕ, IsTrue, List, [], ◌∷◌, ◌++◌, map, Some, slice_get, refl, sym, subst}
+use Rattle.std.proofs.Common.{ℕ, IsTrue, List, [], ◌∷◌, ◌++◌, map}
 use Rattle.std.proofs.lemmas.List.Elements.{All-nil, All-cons, All-append, All-map}
 use Rattle.std.specs.List.{All}
-use Rattle.qk_core.specs.Definitions.{FunctionData}
 use Rattle.qk_core.specs.Program.{ProgramData}
-use Rattle.qk_core.specs.Properties.{BinderData, PropertyData}
+use Rattle.qk_core.specs.Properties.{BinderData}
 use Rattle.qk_core.specs.declared.property.ShrinkBy.{ShrinkBy}
 use Rattle.qk_core.specs.declared.property.ShrinkBy.TheVariants.{Builtin, Function, Nothing}
 use Rattle.qk_value.specs.Data.{Data, Datas, end, more, listed_data}
@@ -13,17 +12,14 @@ use Rattle.qk_value.specs.Types.{TypeData, list_type}
 use Rattle.qk_value.specs.Typing.{has_type, all_have_type}
 use Rattle.qk_eval.specs.Meaning.{Evaluated, result, crash, called}
 use Rattle.qk_eval.specs.Parts.{items_of}
-use Rattle.qk_shrink.specs.Candidates.{value_candidates}
 use Rattle.qk_shrink.specs.Tuples.{answered, candidates, shrunk}
 use Rattle.qk_shrink.proofs.SizeLaws.{each}
 use Rattle.qk_shrink.proofs.TypedLaws.{both, typed}
-use Rattle.qk_typed.specs.TypedExpressions.{IsFunction}
 use Rattle.qk_typed.specs.TypedValues.{HasType, HaveTypes, GivesType}
 use Rattle.qk_typed.specs.WellTyped.{IsWellTyped, IsTypedProperty, IsTypedShrink, AreTypedBinders, types_of}
 use Rattle.qk_typed.specs.Laws.{CandidatesAreTyped}
 use Rattle.qk_typed.proofs.ValueTypes.{each_at, items_have}
-use Rattle.qk_typed.proofs.Typing.{as_type}
-use Rattle.qk_typed.proofs.Programs.{calls_typed}
+use Rattle.qk_typed.proofs.Programs.{function_gives}
 
 listed_typed : (kinds : List KindData) (t : TypeData) (ds : Datas) → IsTrue (all_have_type kinds t ds) → All (HasType kinds t) (listed_data ds)
 listed_typed kinds t end h = All-nil (HasType kinds t)
@@ -35,14 +31,9 @@ answers_typed : (kinds : List KindData) (t : TypeData) (r : Evaluated Data) → 
 answers_typed kinds t (result x u) h = listed_typed kinds t (items_of x) (items_have kinds t x h)
 answers_typed kinds t (crash c) h = All-nil (HasType kinds t)
 
-function_typed : (c : ProgramData) → IsWellTyped c → (f : ℕ) (t : TypeData) (x : Data) (fuel : ℕ) → IsFunction c.functions f (t ∷ []) (list_type t) → HasType c.kinds t x → GivesType c.kinds (list_type t) (called c.functions f (x ∷ []) fuel)
-function_typed c is f t x fuel w h =
-    let args : HaveTypes c.kinds w.0.params (x ∷ []) = subst (λ (us : List TypeData). HaveTypes c.kinds us (x ∷ [])) (sym w.2) (h, tt) in
-    as_type c.kinds w.0.result (list_type t) (called c.functions f (x ∷ []) fuel) (sym w.3) (calls_typed c is f w.0 (x ∷ []) fuel w.1 args)
-
 shrunk_typed : (c : ProgramData) → IsWellTyped c → (fuel : ℕ) (t : TypeData) (s : ShrinkBy) (x : Data) → IsTypedShrink c s t → HasType c.kinds t x → All (HasType c.kinds t) (shrunk c fuel t s x)
 shrunk_typed c is fuel t Builtin x w h = typed c.kinds t x h
-shrunk_typed c is fuel t (Function f) x w h = answers_typed c.kinds t (called c.functions f (x ∷ []) fuel) (function_typed c is f t x fuel w h)
+shrunk_typed c is fuel t (Function f) x w h = answers_typed c.kinds t (called c.functions f (x ∷ []) fuel) (function_gives c is f (t ∷ []) (list_type t) (x ∷ []) fuel w (h, tt))
 shrunk_typed c is fuel t Nothing x w h = All-nil (HasType c.kinds t)
 
 tuples_typed : (c : ProgramData) → IsWellTyped c → (before : List TypeData) (bs : List BinderData) (xs : List Data) (fuel : ℕ) → AreTypedBinders c before bs → HaveTypes c.kinds (types_of bs) xs → All (HaveTypes c.kinds (types_of bs)) (candidates c bs xs fuel)

@@ -1,26 +1,25 @@
 -- A typed generator draws values of its type.
-use Rattle.std.proofs.Common.{◌≡◌, ℕ, zero, suc, ◌+◌, ◌-◌, ◌<◌, ◌≤◌, ℤ, pos, neg_ℤ, Bool, true, false, nat_lt, IsTrue, if◌then◌else◌, List, [], ◌∷◌, ◌++◌, length, Option, Some, None, slice_get, option_map, refl, sym, ap, subst, arith}
-use Rattle.std.specs.Ordering.{int_eq}
+use Rattle.std.proofs.Common.{◌≡◌, ℕ, zero, suc, ◌+◌, ◌-◌, ◌<◌, ◌≤◌, nat_lt, IsTrue, List, [], ◌∷◌, ◌++◌, length, Option, Some, slice_get, option_map, refl, sym, ap, subst, arith}
 use Rattle.qk_base.specs.declared.outcome.Cause.TheVariants.{Weight}
 use Rattle.qk_core.specs.Definitions.{FunctionData, UserGenData}
 use Rattle.qk_core.specs.ExprData.{ExprData, exprs_of}
 use Rattle.qk_core.specs.GenData.{GenData, GensData, WeightedsData}
 use Rattle.qk_core.specs.GenData as gens
-use Rattle.qk_eval.specs.Meaning.{Evaluated, result, crash, and_then, or_crash, mean_all, calling, meaning}
+use Rattle.qk_eval.specs.Meaning.{result, crash, and_then, or_crash, mean_all, calling, meaning}
 use Rattle.qk_eval.specs.Parts.{number_of, small}
-use Rattle.qk_gen.specs.Drawing.{chosen, chosen_between, length_of, size_of, place, up_to, gens_count, total_weight, Draws, elements, vector, Calls, one_expr, draws, draws_at, draws_reached, draws_each, draws_body, body_of, calls_within, drawing_call, drawing, drawn}
+use Rattle.qk_gen.specs.Drawing.{length_of, size_of, place, up_to, gens_count, total_weight, Draws, elements, vector, Calls, one_expr, draws, draws_at, draws_reached, draws_each, draws_body, body_of, calls_within, drawing_call, drawing, drawn}
 use Rattle.qk_splitmix.specs.SplitMix.{Generator, left, right}
-use Rattle.qk_value.specs.Data.{Data, int, bool, list, pair, made, datas_of}
+use Rattle.qk_value.specs.Data.{Data, list, pair, made, datas_of}
 use Rattle.qk_value.specs.Kinds.{KindData}
 use Rattle.qk_value.specs.Measures.{weight}
 use Rattle.qk_value.specs.Types.{TypeData, int_type, bool_type, list_type, pair_type, made_type}
 use Rattle.qk_value.specs.Typing.{has_type, all_have_type}
 use Rattle.qk_shrink.proofs.TypedLaws.{conj}
-use Rattle.qk_typed.specs.TypedExpressions.{IsTyped, AreTyped}
+use Rattle.qk_typed.specs.TypedExpressions.{IsTyped}
 use Rattle.qk_typed.specs.TypedGenerators.{IsGenerator, AllTyped, DrawsType, DrawTypes, AllDrawType, AllPartsDrawType}
 use Rattle.qk_typed.specs.TypedValues.{HasType, HaveTypes, IfResult, GivesType}
 use Rattle.qk_typed.proofs.Places.{place_below, up_to_within}
-use Rattle.qk_typed.proofs.Typing.{then_gives, if_gives, small_gives, as_type, BodiesAreTyped, meaning_gives, meanings_give}
+use Rattle.qk_typed.proofs.Typing.{then_gives, if_gives, pick_gives, small_gives, as_type, BodiesAreTyped, meaning_gives, meanings_give}
 use Rattle.qk_typed.proofs.ValueTypes.{one_more, made_has}
 
 -- items of one type
@@ -97,12 +96,10 @@ module _ (kinds : List KindData) (functions : List FunctionData) (typed : Bodies
 
       reached_gives : (parts : WeightedsData) (n : ℕ) (ts : List TypeData) (t : TypeData) (env : List Data) (size : ℕ) (g : Generator) (u : ℕ) → 1 ≤ n → n ≤ total_weight parts → HaveTypes kinds ts env → AllPartsDrawType kinds functions generators ts parts t → GivesType kinds t (draws_reached functions calls parts n env size g u)
       reached_gives gens.no_weighted n ts t env size g u some l h w = absurd (omega (arith, some, l))
-      reached_gives (gens.more_weighted a e parts) n ts t env size g u some l h w = reached_by a e parts n ts t env size g u (nat_lt a n) refl some l h w
-
-      reached_by : (a : ℕ) (e : GenData) (parts : WeightedsData) (n : ℕ) (ts : List TypeData) (t : TypeData) (env : List Data) (size : ℕ) (g : Generator) (u : ℕ) (b : Bool) → nat_lt a n ≡ b → 1 ≤ n → n ≤ a + total_weight parts → HaveTypes kinds ts env
-          → DrawsType kinds functions generators ts e t × AllPartsDrawType kinds functions generators ts parts t → GivesType kinds t (if b then draws_reached functions calls parts (n - a) env size g u else draws functions calls e env size g u)
-      reached_by a e parts n ts t env size g u true is some l h w = reached_gives parts (n - a) ts t env size g u (let more : a < n = grind arith in omega (arith, more)) (omega (arith, l)) h w.1
-      reached_by a e parts n ts t env size g u false is some l h w = draw_gives e ts t env size g u h w.0
+      reached_gives (gens.more_weighted a e parts) n ts t env size g u some l h w =
+          pick_gives (HasType kinds t) (nat_lt a n) (draws_reached functions calls parts (n - a) env size g u) (draws functions calls e env size g u)
+          (λ yes. reached_gives parts (n - a) ts t env size g u (let more : a < n = grind (arith, yes) in omega (arith, more)) (omega (arith, l)) h w.1)
+          (λ other. draw_gives e ts t env size g u h w.0)
 
       each_gives : (es : GensData) (ts us : List TypeData) (env : List Data) (size : ℕ) (g : Generator) (u : ℕ) → HaveTypes kinds ts env → DrawTypes kinds functions generators ts es us → IfResult (draws_each functions calls es env size g u) (HaveTypes kinds us)
       each_gives gens.end ts [] env size g u h w = tt

@@ -1,5 +1,5 @@
 -- A place that is picked by a word is one of the places.
-use Rattle.std.proofs.Common.{◌≡◌, ◌∙◌, ℕ, zero, suc, ◌+◌, ◌-◌, ◌*◌, ◌/◌, ◌%◌, ◌^◌, ◌<◌, ◌≤◌, max, ℤ, pos, ◌+ℤ◌, ◌-ℤ◌, ◌≤ℤ◌, unsigned_abs, bit_xor, refl, ap, subst, sym, arith}
+use Rattle.std.proofs.Common.{◌≡◌, ℕ, ◌+◌, ◌-◌, ◌*◌, ◌/◌, ◌^◌, ◌<◌, ◌≤◌, max, pos, ◌-ℤ◌, ◌≤ℤ◌, unsigned_abs, ap, arith}
 use Rattle.std.proofs.Math.Nat.{div-lt_iff_lt-mul, mod-lt}
 use Rattle.std.proofs.lemmas.Nat.{xor_lt}
 use Rattle.qk_gen.specs.Drawing.{length_of, place, up_to}
@@ -15,8 +15,7 @@ unfolding stirred
 stirred_below k factor z = mod-lt (shifted_onto k z * factor) (omega arith)
 
 word_below : (g : Generator) → word g < 2 ^ 64
-unfolding word
-unfolding mix64
+unfolding word mix64
 word_below g = shifted_below _ (stirred_below 33 0xc4ceb9fe1a85ec53 (stirred 33 0xff51afd7ed558ccd (stepped 1 g)))
 
 scaled : (w d p : ℕ) → w < p → w * (d + 1) < (d + 1) * p

@@ -1,6 +1,6 @@
 -- A typed expression gives a value of its type.
-use Rattle.std.proofs.Common.{◌≡◌, ◌∙◌, ℕ, zero, suc, ℤ, pos, ◌+ℤ◌, ◌-ℤ◌, ◌*ℤ◌, neg_ℤ, int_div, int_rem, Bool, true, false, not, ◌&&◌, nat_lt, IsTrue, if◌then◌else◌, List, [], ◌∷◌, ◌++◌, Option, Some, None, Result, Ok, Err, slice_get, option_map, refl, sym, ap, subst, rules, arith}
-use Rattle.std.specs.Ordering.{is_eq, is_lt, is_le, int_eq}
+use Rattle.std.proofs.Common.{◌≡◌, ℕ, zero, suc, ℤ, pos, ◌+ℤ◌, ◌-ℤ◌, ◌*ℤ◌, neg_ℤ, int_div, int_rem, Bool, true, false, nat_lt, IsTrue, if◌then◌else◌, List, [], ◌∷◌, ◌++◌, Option, Some, None, Result, Ok, Err, slice_get, option_map, refl, sym, ap, subst}
+use Rattle.std.specs.Ordering.{int_eq}
 use Rattle.qk_base.specs.declared.outcome.Cause.{Cause}
 use Rattle.qk_base.specs.declared.outcome.Cause.TheVariants.{Overflow, DivZero, Weight, Depth}
 use Rattle.qk_core.specs.Definitions.{FunctionData}
@@ -10,20 +10,19 @@ use Rattle.qk_core.specs.declared.expr.Op1.TheVariants.{Neg, Not, Length}
 use Rattle.qk_core.specs.declared.expr.Op2.{Op2}
 use Rattle.qk_core.specs.declared.expr.Op2.TheVariants.{Add, Sub, Mul, Div, Mod, Equal, Less, AtMost, And, Or, Cons, Append, Pair}
 use Rattle.qk_core.specs.declared.expr.Pattern.{Pattern}
-use Rattle.qk_value.specs.Data.{Data, int, bool, list, pair, made, end, more, datas_of}
+use Rattle.qk_value.specs.Data.{Data, int, bool, list, pair, made, datas_of}
 use Rattle.qk_value.specs.Kinds.{KindData}
 use Rattle.qk_value.specs.Measures.{weight, depth}
-use Rattle.qk_value.specs.Order.{compare}
 use Rattle.qk_value.specs.Types.{TypeData, int_type, bool_type, list_type, pair_type, made_type}
 use Rattle.qk_value.specs.Typing.{has_type, all_have_type}
-use Rattle.qk_eval.specs.Meaning.{Evaluated, result, crash, and_then, fits_i64, number_if_fits, overflows, quotient, remainder, unary_of, binary_of, decided_by, or_crash, or_else, Calls, mean, mean_all, mean_case, body_of, mean_body, calls_within, calling, meaning, called}
-use Rattle.qk_eval.specs.Parts.{number_of, truth_of, items_of, count, joined, before, parts_of, fits, small}
+use Rattle.qk_eval.specs.Meaning.{Evaluated, result, crash, and_then, fits_i64, overflows, unary_of, binary_of, decided_by, or_crash, or_else, Calls, mean, mean_all, mean_case, body_of, mean_body, calls_within, calling, meaning, called}
+use Rattle.qk_eval.specs.Parts.{number_of, truth_of, items_of, joined, before, parts_of, fits, small}
 use Rattle.qk_shrink.proofs.TypedLaws.{conj}
 use Rattle.qk_typed.specs.OperatorTypes.{TakesOne, TakesTwo}
-use Rattle.qk_typed.specs.PatternTypes.{Binds, HasCase}
+use Rattle.qk_typed.specs.PatternTypes.{HasCase}
 use Rattle.qk_typed.specs.TypedExpressions.{IsFunction, IsTyped, AreTyped, AreCases}
 use Rattle.qk_typed.specs.TypedValues.{HasType, HaveTypes, IfResult, GivesType}
-use Rattle.qk_typed.proofs.ValueTypes.{variable_has, both_have, one_more, made_has, items_have, joined_have, binds_have, Taken, taken, another_case}
+use Rattle.qk_typed.proofs.ValueTypes.{variable_has, both_have, one_more, made_has, items_have, joined_have, binds_have, taken, another_case}
 
 pub then_gives : {R S : Type 0} (P : R → Type 0) (Q : S → Type 0) (r : Evaluated R) (f : R → ℕ → Evaluated S) → IfResult r P → ((x : R) (u : ℕ) → P x → IfResult (f x u) Q) → IfResult (and_then r f) Q
 then_gives P Q (result x u) f h go = go x u h
@@ -33,7 +32,7 @@ pub if_gives : {R : Type 0} (P : R → Type 0) (b : Bool) (r s : Evaluated R) �
 if_gives P true r s h k = h
 if_gives P false r s h k = k
 
-pick_gives : (P : Data → Type 0) (b : Bool) (r s : Evaluated Data) → (b ≡ true → IfResult r P) → (b ≡ false → IfResult s P) → IfResult (if b then r else s) P
+pub pick_gives : (P : Data → Type 0) (b : Bool) (r s : Evaluated Data) → (b ≡ true → IfResult r P) → (b ≡ false → IfResult s P) → IfResult (if b then r else s) P
 pick_gives P true r s h k = h refl
 pick_gives P false r s h k = k refl
 
@@ -97,7 +96,7 @@ decided_has kinds Or x b r s t e w = subst (λ (a : TypeData). HasType kinds a (
 decided_has kinds op x b r s t e w = cc
 
 module _ (kinds : List KindData) (functions : List FunctionData) (calls : Calls)
-  (calls_give : (f : ℕ) (ts : List TypeData) (t : TypeData) (xs : List Data) (u : ℕ) → IsFunction functions f ts t → HaveTypes kinds ts xs → GivesType kinds t (calls f xs u)) where
+    (calls_give : (f : ℕ) (ts : List TypeData) (t : TypeData) (xs : List Data) (u : ℕ) → IsFunction functions f ts t → HaveTypes kinds ts xs → GivesType kinds t (calls f xs u)) where
   mutual
     pub gives : (e : ExprData) (ts : List TypeData) (t : TypeData) (env : List Data) (u : ℕ) → HaveTypes kinds ts env → IsTyped kinds functions ts e t → GivesType kinds t (mean calls e env u)
     gives (number n) ts t env u h w = as_type kinds int_type t (mean calls (number n) env u) w refl
@@ -142,7 +141,7 @@ module _ (kinds : List KindData) (functions : List FunctionData) (calls : Calls)
     case_gives (more_cases q e cases) p x s ts t env u h k w has takes =
         pick_gives (HasType kinds t) (fits q x) (mean calls e (env ++ parts_of x) u) (mean_case calls cases x env u)
         (λ yes. gives e (ts ++ w.0.0) t (env ++ parts_of x) u (both_have kinds ts env w.0.0 (parts_of x) h (binds_have kinds q x s w.0.0 yes k w.0.1)) w.0.2)
-        (λ no. case_gives cases p x s ts t env u h k w.1 (another_case q p cases x takes no has) takes)
+        (λ other. case_gives cases p x s ts t env u h k w.1 (another_case q p cases x takes other has) takes)
 
 -- each function's body has its type
 abbrev pub BodiesAreTyped : List KindData → List FunctionData → Type 0

@@ -1,11 +1,11 @@
 -- Values of types: parts, items and environments.
-use Rattle.std.proofs.Common.{◌≡◌, ◌∙◌, ℕ, zero, suc, Bool, true, false, ◌&&◌, nat_eq, IsTrue, List, [], ◌∷◌, ◌++◌, Option, Some, None, ◌⊎◌, inl, inr, slice_get, unwrap_or, refl, sym, ap, subst, arith, rules}
+use Rattle.std.proofs.Common.{◌≡◌, ◌∙◌, ℕ, zero, suc, false, nat_eq, IsTrue, List, [], ◌∷◌, ◌++◌, Option, Some, None, ◌⊎◌, inl, inr, slice_get, unwrap_or, refl, sym, ap, subst, arith, rules}
 use Rattle.qk_core.specs.ExprData.{CasesData}
 use Rattle.qk_core.specs.declared.expr.Pattern.{Pattern}
 use Rattle.qk_core.specs.declared.expr.Pattern.TheVariants as patterns
 use Rattle.qk_value.specs.Data.{Data, int, bool, list, pair, made, Datas, end, more, datas_of, listed_data}
 use Rattle.qk_value.specs.Kinds.{KindData, maker_of}
-use Rattle.qk_value.specs.Types.{TypeData, int_type, bool_type, list_type, pair_type, made_type}
+use Rattle.qk_value.specs.Types.{TypeData, list_type, pair_type, made_type}
 use Rattle.qk_value.specs.Typing.{has_type, all_have_type, are_parts, field_types}
 use Rattle.qk_eval.specs.Parts.{items_of, joined, parts_of, fits}
 use Rattle.qk_shrink.proofs.TypedLaws.{both, conj, same_number}
@@ -116,5 +116,5 @@ taken kinds t x m h = first_of (cc, search rules)
 
 -- a case that does not take the value is not that of the pattern that does
 pub another_case : (q p : Pattern) (cases : CasesData) (x : Data) → IsTrue (fits p x) → fits q x ≡ false → (q ≡ p) ⊎ HasCase p cases → HasCase p cases
-another_case q p cases x takes no (inl same) = let yes : IsTrue (fits q x) = subst (λ (r : Pattern). IsTrue (fits r x)) (sym same) takes in cc
-another_case q p cases x takes no (inr h) = h
+another_case q p cases x takes other (inl same) = let yes : IsTrue (fits q x) = subst (λ (r : Pattern). IsTrue (fits r x)) (sym same) takes in cc
+another_case q p cases x takes other (inr h) = h

@@ -1,10 +1,10 @@
 -- What well-typed programs do: each part gives values of its type.
-use Rattle.std.specs.Prelude.{◌≡◌, ℕ, List, [], ◌∷◌, None, Some, length, take, slice_get, All}
+use Rattle.std.specs.Prelude.{◌≡◌, ℕ, List, None, Some, length, take, slice_get, All}
 use Rattle.qk_core.specs.Definitions.{FunctionData, UserGenData, ModelData}
 use Rattle.qk_core.specs.ExprData.{ExprData}
 use Rattle.qk_core.specs.GenData.{GenData}
 use Rattle.qk_core.specs.Program.{ProgramData}
-use Rattle.qk_core.specs.Properties.{BinderData, PropertyData}
+use Rattle.qk_core.specs.Properties.{PropertyData}
 use Rattle.qk_value.specs.Data.{Data}
 use Rattle.qk_value.specs.Types.{TypeData, list_type}
 use Rattle.qk_eval.specs.Meaning.{meaning, called}
@@ -12,7 +12,7 @@ use Rattle.qk_splitmix.specs.SplitMix.{Generator}
 use Rattle.qk_gen.specs.Drawing.{drawing, drawn}
 use Rattle.qk_command.specs.Drawing.{drawing_commands, drawn_values}
 use Rattle.qk_shrink.specs.Tuples.{candidates}
-use Rattle.qk_typed.specs.TypedValues.{HasType, HaveTypes, GivesType}
+use Rattle.qk_typed.specs.TypedValues.{HaveTypes, GivesType}
 use Rattle.qk_typed.specs.WellTyped.{HasTypeIn, DrawsIn, IsWellTyped, types_of}
 
 -- in an environment of these types, a typed expression means a value of its type, or crashes

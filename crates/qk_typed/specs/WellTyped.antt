@@ -1,6 +1,6 @@
 -- Which programs are well typed.
 use Rattle.std.specs.Prelude.{◌≡◌, ℕ, List, [], ◌∷◌, ◌++◌, map, Some, slice_get}
-use Rattle.qk_value.specs.Kinds.{MakerData, KindData}
+use Rattle.qk_value.specs.Kinds.{KindData}
 use Rattle.qk_value.specs.Types.{TypeData, bool_type, list_type}
 use Rattle.qk_core.specs.Definitions.{FunctionData, UserGenData, ModelData}
 use Rattle.qk_core.specs.ExprData.{ExprData}
