@@ -1,7 +1,9 @@
 pub mod Complete
 pub mod Expressions
 pub mod Found
+pub mod Generators
 pub mod Operators
+pub mod Regular
 pub mod Shapes
 pub mod Stands
 pub mod TreeTypes
