@@ -1,16 +1,15 @@
 -- A match with all patterns of a type is complete.
 use Rattle.std.specs.Prelude.{find, bytes_eq}
-use Rattle.std.specs.List.{list_any, list_all}
-use Rattle.std.proofs.Common.{◌≡◌, ◌∙◌, Bool, true, false, ◌||◌, List, [], ◌∷◌, ◌⊎◌, inl, inr, Some, refl, sym, ap, subst}
+use Rattle.std.specs.List.{list_any}
+use Rattle.std.proofs.Common.{◌≡◌, ◌∙◌, Bool, true, false, ◌||◌, List, [], ◌∷◌, inl, inr, Some, refl, sym, ap, subst}
 use Rattle.std.proofs.lemmas.Slice.Eq.{bytes_eq-Decides}
 use Rattle.qk_core.specs.ExprData.{cases_of}
 use Rattle.qk_core.specs.declared.expr.Pattern.{Pattern}
 use Rattle.qk_expressions.specs.Patterns.{Shape, shapes_of, is_among}
-use Rattle.qk_headers.specs.Headers.{HeadersData}
 use Rattle.qk_headers.specs.Scopes.{Scope}
 use Rattle.qk_names.specs.Reserved.{Word}
-use Rattle.qk_syntax.specs.PlainTrees.{PlainTree, number, name, list, PlainTrees, end, more}
-use Rattle.qk_typed.specs.PatternTypes.{Binds, HasCase, IsComplete}
+use Rattle.qk_syntax.specs.PlainTrees.{name, list, PlainTrees, end, more}
+use Rattle.qk_typed.specs.PatternTypes.{HasCase, IsComplete}
 use Rattle.qk_typed.specs.WellTyped.{Each}
 use Rattle.qk_typing.specs.Operators.{Tables}
 use Rattle.qk_value.specs.Types.{TypeData}
@@ -49,10 +48,10 @@ has_case shapes shape (arm ∷ arms) h first some =
 pub complete : (d : Tables) (s : Scope) (u t : TypeData) (cases : PlainTrees) (arms : List Arm) → Each HasNewMakers d.headers.kinds → AreArms d s (shapes_of d.headers u) t cases arms → AreAll (shapes_of d.headers u) arms
     → IsComplete d.headers.kinds u (cases_of (cases_in arms))
 complete d s u t cases arms new are all = (
-    is_matched d.headers u all.some,
-    λ p ts b. let found : Found d.headers u p = pattern_found d.headers new p u ts b in
-    let some : is_among (heads_of arms) found.shape.head ≡ true =
-    find_holds (λ (x : Shape). is_among (heads_of arms) x.head ≡ true) (λ x. bytes_eq found.shape.head x.head) (shapes_of d.headers u) found.shape
-    (all_pass (λ (x : Shape). is_among (heads_of arms) x.head) (shapes_of d.headers u) all.each) found.first in
-    subst (λ (q : Pattern). HasCase q (cases_of (cases_in arms))) found.is (has_case (shapes_of d.headers u) found.shape arms (arms_first d s (shapes_of d.headers u) t cases arms are) found.first some),
-  )
+  is_matched d.headers u all.some,
+  λ p ts b. let found : Found d.headers u p = pattern_found d.headers new p u ts b in
+      let some : is_among (heads_of arms) found.shape.head ≡ true =
+      find_holds (λ (x : Shape). is_among (heads_of arms) x.head ≡ true) (λ x. bytes_eq found.shape.head x.head) (shapes_of d.headers u) found.shape
+      (all_pass (λ (x : Shape). is_among (heads_of arms) x.head) (shapes_of d.headers u) all.each) found.first in
+      subst (λ (q : Pattern). HasCase q (cases_of (cases_in arms))) found.is (has_case (shapes_of d.headers u) found.shape arms (arms_first d s (shapes_of d.headers u) t cases arms are) found.first some),
+)

@@ -1,19 +1,18 @@
 -- What trees are as expressions is typed.
-use Rattle.std.specs.Prelude.{find, bytes_eq}
+use Rattle.std.specs.Prelude.{bytes_eq}
 use Rattle.std.specs.Option.{option_or}
-use Rattle.std.proofs.Common.{◌≡◌, ◌∙◌, ℕ, zero, suc, ◌+◌, Bool, true, false, if◌then◌else◌, List, [], ◌∷◌, ◌++◌, length, Option, Some, None, slice_get, refl, sym, ap, subst, arith}
+use Rattle.std.proofs.Common.{◌≡◌, ◌∙◌, ℕ, suc, ◌+◌, Bool, true, false, if◌then◌else◌, List, [], ◌∷◌, ◌++◌, length, Option, Some, None, slice_get, refl, sym, ap, subst, arith}
 use Rattle.qk_core.specs.Definitions.{FunctionData, UserGenData}
 use Rattle.qk_core.specs.ExprData.{ExprData, exprs_of, cases_of}
 use Rattle.qk_expressions.specs.Patterns.{Shape, shapes_of}
 use Rattle.qk_headers.specs.Scopes.{Scope, Found, VariableData, types_of, variable_after, variable_of, bind, bind_all}
-use Rattle.qk_names.specs.Names.{named_by}
 use Rattle.qk_names.specs.Reserved.{Word}
 use Rattle.qk_names.specs.declared.names.Named.TheVariants as named
 use Rattle.qk_syntax.specs.PlainTrees.{PlainTree, number, name, list, PlainTrees, end, more, count}
 use Rattle.qk_typed.specs.PatternTypes.{Binds}
 use Rattle.qk_typed.specs.TypedExpressions.{IsTyped, AreTyped, AreCases}
 use Rattle.qk_typing.specs.Operators.{Tables, empty_list, binding, matching, operator}
-use Rattle.qk_value.specs.Types.{TypeData, int_type, bool_type, list_type}
+use Rattle.qk_value.specs.Types.{TypeData}
 use Rattle.qk_wellformed.specs.IsExpression.{IsExpression, AreExpressions, IsLet, IsMatch, AreArms, IsEmptyList, IsLoneName, Arm, cases_in, truth_of}
 use Rattle.qk_wellformed.specs.IsVariable.{AreVariables}
 use Rattle.qk_sound.proofs.Complete.{complete}
@@ -103,8 +102,12 @@ module _ (d : Tables) (functions : List FunctionData) (generators : List UserGen
     arms_typed end s u t [] h = tt
     arms_typed (more (list p (more (list q (more (name r w) xs)) (more b end))) cases) s u t (arm ∷ arms) (found, many, (ws, vars, is), rest) =
         let binds : Binds d.headers.kinds arm.shape.pattern u arm.shape.fields =
-        find_holds (λ (x : Shape). Binds d.headers.kinds x.pattern u x.fields) (λ x. bytes_eq w x.head) (shapes_of d.headers u) arm.shape (shapes_bind d.headers u) found in
-        ((arm.shape.fields, binds,
-        subst (λ (us : List TypeData). IsTyped d.headers.kinds functions us arm.body t) (all_bound_types s ws arm.shape.fields (so_many [] xs ws vars ∙ many)) (expression_typed b (bind_all s ws arm.shape.fields) t arm.body is)),
-        arms_typed cases s u t arms rest)
+        find_holds (λ (x : Shape). Binds d.headers.kinds x.pattern u x.fields) (λ x. bytes_eq w x.head) (shapes_of d.headers u) arm.shape (shapes_bind d.headers u) found in (
+          (
+            arm.shape.fields,
+            binds,
+            subst (λ (us : List TypeData). IsTyped d.headers.kinds functions us arm.body t) (all_bound_types s ws arm.shape.fields (so_many [] xs ws vars ∙ many)) (expression_typed b (bind_all s ws arm.shape.fields) t arm.body is),
+          ),
+          arms_typed cases s u t arms rest,
+        )
     arms_typed cases s u t arms h = absurd h

@@ -1,7 +1,7 @@
 -- What lists hold, and what is found in them.
-use Rattle.std.specs.Prelude.{cond, find, option_map, bytes_eq}
+use Rattle.std.specs.Prelude.{cond, find, option_map, unwrap_or, bytes_eq}
 use Rattle.std.specs.List.{list_all}
-use Rattle.std.proofs.Common.{◌≡◌, ◌∙◌, ℕ, zero, suc, Bool, true, false, ◌||◌, ◌&&◌, if◌then◌else◌, List, [], ◌∷◌, ◌++◌, length, Option, Some, None, slice_get, refl, sym, ap, subst}
+use Rattle.std.proofs.Common.{◌≡◌, ℕ, zero, suc, ◌+◌, ◌<◌, Bool, true, false, ◌&&◌, if◌then◌else◌, List, [], ◌∷◌, ◌++◌, length, Option, Some, None, slice_get, refl, subst, arith}
 use Rattle.qk_names.specs.Names.{Declared, named_by}
 use Rattle.qk_names.specs.Reserved.{Word, entry_of}
 use Rattle.qk_names.specs.declared.names.Named.{Named}
@@ -60,3 +60,40 @@ named_of P (Some e) what k h = subst P (same_some e.named what h) (k e refl)
 -- what holds of each declared name holds of the one that is found
 pub named_holds : (P : Named → Type 0) (names : List Declared) (w : Word) (what : Named) → Each (λ (e : Declared). P e.named) names → named_by names w ≡ Some what → P what
 named_holds P names w what h e = named_of P (find (λ d. bytes_eq w d.name) names) what (λ d k. find_holds (λ (x : Declared). P x.named) (λ d. bytes_eq w d.name) names d h k) e
+
+pub at_within : {X : Type 0} (xs : List X) (i : ℕ) → i < length xs → (x : X) × (slice_get xs i ≡ Some x)
+at_within [] i l = absurd (omega (arith, l))
+at_within (x ∷ xs) zero l = (x, refl)
+at_within (x ∷ xs) (suc i) l = at_within xs i (omega (arith, l))
+
+-- what stands at a place stands there when more come
+pub still_at : {X : Type 0} (xs ys : List X) (i : ℕ) (x : X) → slice_get xs i ≡ Some x → slice_get (xs ++ ys) i ≡ Some x
+still_at [] ys i x e = cc
+still_at (y ∷ xs) ys zero x e = e
+still_at (y ∷ xs) ys (suc i) x e = still_at xs ys i x e
+
+pub last_at : {X : Type 0} (xs : List X) (x : X) → slice_get (xs ++ x ∷ []) (length xs) ≡ Some x
+last_at [] x = refl
+last_at (y ∷ ys) x = last_at ys x
+
+-- .. and what stands at one then stood there, or is the last
+at_more : {X : Type 0} (P : ℕ → X → Type 0) (xs : List X) (x : X) (n i : ℕ) (y : X) → ((j : ℕ) (z : X) → slice_get xs j ≡ Some z → P (n + j) z) → P (n + length xs) x → slice_get (xs ++ x ∷ []) i ≡ Some y → P (n + i) y
+at_more P [] x n zero y h k e = subst (λ (z : _). P (n + 0) z) (same_some x y e) k
+at_more P [] x n (suc i) y h k e = cc
+at_more P (z ∷ xs) x n zero y h k e = h 0 y e
+at_more P (z ∷ xs) x n (suc i) y h k e =
+    let next : (j : ℕ) → n + 1 + j ≡ n + suc j = λ j. omega arith in
+    let end : n + suc (length xs) ≡ n + 1 + length xs = omega arith in
+    subst (λ j. P j y) (next i) (at_more P xs x (n + 1) i y (λ j u f. let at : n + suc j ≡ n + 1 + j = omega arith in subst (λ l. P l u) at (h (suc j) u f)) (subst (λ l. P l x) end k) e)
+
+pub held_more : {X : Type 0} (P : ℕ → X → Type 0) (xs : List X) (x : X) → HoldsAt P xs → P (length xs) x → HoldsAt P (xs ++ x ∷ [])
+held_more P xs x h k i y e =
+    let zero_more : (j : ℕ) → j ≡ 0 + j = λ j. omega arith in
+    let back : 0 + i ≡ i = omega arith in
+    subst (λ j. P j y) back (at_more P xs x 0 i y (λ j z f. subst (λ l. P l z) (zero_more j) (h j z f)) (subst (λ l. P l x) (zero_more (length xs)) k) e)
+
+-- what holds of each and of a default holds of what is at a place
+pub each_or : {X : Type 0} (P : X → Type 0) (xs : List X) (i : ℕ) (d : X) → Each P xs → P d → P (unwrap_or (slice_get xs i) d)
+each_or P [] i d h k = k
+each_or P (x ∷ xs) zero d h k = h.0
+each_or P (x ∷ xs) (suc i) d h k = each_or P xs i d h.1 k

@@ -1,11 +1,11 @@
 -- What trees are as generators is typed.
 use Rattle.std.specs.Prelude.{codes, sum_by, option_and_then}
-use Rattle.std.proofs.Common.{◌≡◌, ◌∙◌, ℕ, zero, suc, ◌+◌, ◌<◌, List, [], ◌∷◌, ◌++◌, length, Option, Some, None, slice_get, refl, sym, ap, subst, arith}
+use Rattle.std.proofs.Common.{◌≡◌, ◌∙◌, ℕ, ◌+◌, List, [], ◌∷◌, Option, Some, None, slice_get, refl, sym, ap, subst, arith}
 use Rattle.std.proofs.lemmas.List.Sums.{sum_by-cons}
 use Rattle.qk_core.specs.Definitions.{FunctionData, UserGenData}
 use Rattle.qk_core.specs.ExprData.{ExprData, exprs_of}
 use Rattle.qk_core.specs.GenData.{GenData, gens_of, weighteds_of}
-use Rattle.qk_gen.specs.Drawing.{gens_count, total_weight}
+use Rattle.qk_gen.specs.Drawing.{total_weight}
 use Rattle.qk_generators.specs.Drawing.{GenForm, values, draws, sized, frequency, bind, OfValues, choose, elements, pure, call, OfDraws, list as of_list, pair as of_pair, one_of, made, Sized, vector, resize, gen_forms, gen_form_by, declared_gen, generator_of}
 use Rattle.qk_headers.specs.Scopes.{Scope, types_of, bind as with_variable}
 use Rattle.qk_names.specs.Names.{Declared, named_by}
@@ -19,7 +19,6 @@ use Rattle.qk_typed.specs.WellTyped.{Each}
 use Rattle.qk_typing.specs.Operators.{Tables}
 use Rattle.qk_value.specs.Types.{TypeData, int_type, bool_type}
 use Rattle.qk_wellformed.specs.GeneratorTypes.{AllAre, ValuesTypes, DrawsTypes, SizedTypes, IsOfValues, IsOfDraws, IsSizedBy}
-use Rattle.qk_wellformed.specs.IsExpression.{AreExpressions}
 use Rattle.qk_wellformed.specs.IsGenerator.{IsGenerator as IsTreeGenerator, AreGenerators, IsSized, IsBind, AreWeighed, plain_generator}
 use Rattle.qk_sound.proofs.Expressions.{expression_typed, expressions_typed}
 use Rattle.qk_sound.proofs.Found.{entry_holds}

@@ -1,8 +1,14 @@
+pub mod Bodies
 pub mod Complete
+pub mod Declared
 pub mod Expressions
 pub mod Found
 pub mod Generators
+pub mod Headers
+pub mod Models
 pub mod Operators
+pub mod Programs
+pub mod Properties
 pub mod Regular
 pub mod Shapes
 pub mod Stands

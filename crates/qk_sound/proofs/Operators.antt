@@ -17,7 +17,7 @@ use Rattle.qk_typed.specs.TypedExpressions.{IsFunction, IsMaker, IsTyped, AreTyp
 use Rattle.qk_typed.specs.WellTyped.{Each}
 use Rattle.qk_typing.specs.Operators.{Tables, Form, empty_list, binding, matching, operator, Operator, choice, unary, binary, maker, function, forms, form_by, declared_form, fields_of, function_of}
 use Rattle.qk_value.specs.Kinds.{MakerData, maker_of}
-use Rattle.qk_value.specs.Types.{TypeData, bool_type}
+use Rattle.qk_value.specs.Types.{TypeData}
 use Rattle.qk_value.specs.Typing.{field_types}
 use Rattle.qk_wellformed.specs.OperatorTypes.{UnaryTypes, BinaryTypes, OperatorTypes, IsApplied}
 use Rattle.qk_sound.proofs.Found.{entry_holds}

@@ -1,6 +1,6 @@
 -- The types of typed expressions and generators have user types of the table alone.
 use Rattle.std.specs.Prelude.{option_and_then}
-use Rattle.std.proofs.Common.{◌≡◌, ◌∙◌, ℕ, zero, suc, ◌<◌, List, [], ◌∷◌, ◌++◌, length, Option, Some, None, ◌⊎◌, inl, inr, slice_get, refl, sym, ap, subst, arith}
+use Rattle.std.proofs.Common.{◌≡◌, ◌∙◌, ℕ, zero, suc, ◌<◌, List, [], ◌∷◌, ◌++◌, length, Option, Some, slice_get, refl, sym, ap, subst, arith}
 use Rattle.std.proofs.lemmas.Option.{slice_get_within}
 use Rattle.qk_core.specs.Definitions.{FunctionData, UserGenData}
 use Rattle.qk_core.specs.ExprData.{ExprData, number, truth, variable, empty, choice, binding, unary, binary, matching, making, call, CasesData, no_case, more_cases}
@@ -14,12 +14,12 @@ use Rattle.qk_core.specs.declared.expr.Pattern.{Pattern}
 use Rattle.qk_core.specs.declared.expr.Pattern.TheVariants as patterns
 use Rattle.qk_gen.specs.Drawing.{gens_count, total_weight}
 use Rattle.qk_typed.specs.OperatorTypes.{TakesOne, TakesTwo}
-use Rattle.qk_typed.specs.PatternTypes.{Binds, IsMatched, HasCase, IsComplete}
+use Rattle.qk_typed.specs.PatternTypes.{Binds, IsMatched, HasCase}
 use Rattle.qk_typed.specs.TypedExpressions.{IsType, AreTypes, IsFunction, IsMaker, IsTyped, AreCases}
 use Rattle.qk_typed.specs.TypedGenerators.{IsGenerator, AllTyped, DrawsType, AllDrawType, AllPartsDrawType}
 use Rattle.qk_typed.specs.WellTyped.{Each, IsTypedKind}
 use Rattle.qk_typed.proofs.ValueTypes.{each_at}
-use Rattle.qk_value.specs.Kinds.{MakerData, KindData, maker_of}
+use Rattle.qk_value.specs.Kinds.{MakerData, KindData}
 use Rattle.qk_value.specs.Types.{TypeData, int_type, bool_type, list_type, pair_type, made_type}
 use Rattle.qk_value.specs.Typing.{field_types}
 use Rattle.qk_headers.specs.Headers.{HeadersData}

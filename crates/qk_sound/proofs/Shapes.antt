@@ -1,6 +1,5 @@
 -- The patterns of a type stand under names of their own.
 use Rattle.std.specs.Prelude.{find, codes, bytes_eq, cond, option_and_then}
-use Rattle.std.specs.List.{list_any}
 use Rattle.std.proofs.Common.{◌≡◌, ◌∙◌, ℕ, zero, suc, ◌+◌, Bool, true, false, ◌||◌, List, [], ◌∷◌, ◌++◌, map, Option, Some, None, slice_get, refl, sym, ap, subst, arith}
 use Rattle.std.proofs.lemmas.List.Folds.{list_any-append}
 use Rattle.std.proofs.lemmas.Slice.Eq.{bytes_eq-Decides}
@@ -99,7 +98,7 @@ pattern_found h new (patterns.Maker k m) (made_type l) ts b =
       shape = record { head = made.maker.name; pattern = patterns.Maker l m; fields = made.maker.fields };
       is = ap (λ i. patterns.Maker i m) (sym b.0);
       first = ap (λ (ms : List MakerData). find (λ x. bytes_eq made.maker.name x.head) (maker_shapes l 0 ms)) makers
-        ∙ maker_found l [] made.kind.makers 0 m m made.maker (each_at HasNewMakers h.kinds k made.kind new made.at) (omega arith) made.of;
+          ∙ maker_found l [] made.kind.makers 0 m m made.maker (each_at HasNewMakers h.kinds k made.kind new made.at) (omega arith) made.of;
     }
 pattern_found h new p t ts b = absurd b
 
@@ -108,8 +107,10 @@ shapes_bind_from : (kinds : List KindData) (k n : ℕ) (makers : List MakerData)
     → Each (λ (s : Shape). Binds kinds s.pattern (made_type k) s.fields) (maker_shapes k n makers)
 shapes_bind_from kinds k n [] h = tt
 shapes_bind_from kinds k n (m ∷ makers) h =
-    let here : n + 0 ≡ n = omega arith in ((refl, subst (λ i. field_types (maker_of kinds k i) ≡ Some m.fields) here (h 0 m refl)),
-      shapes_bind_from kinds k (n + 1) makers (λ i x e. let at : n + suc i ≡ n + 1 + i = omega arith in subst (λ j. field_types (maker_of kinds k j) ≡ Some x.fields) at (h (suc i) x e)))
+    let here : n + 0 ≡ n = omega arith in (
+      (refl, subst (λ i. field_types (maker_of kinds k i) ≡ Some m.fields) here (h 0 m refl)),
+      shapes_bind_from kinds k (n + 1) makers (λ i x e. let at : n + suc i ≡ n + 1 + i = omega arith in subst (λ j. field_types (maker_of kinds k j) ≡ Some x.fields) at (h (suc i) x e)),
+    )
 
 kind_binds : (kinds : List KindData) (k : ℕ) (o : Option KindData) → slice_get kinds k ≡ o → Each (λ (s : Shape). Binds kinds s.pattern (made_type k) s.fields) (maker_shapes k 0 (makers_in o))
 kind_binds kinds k None at = tt

@@ -1,7 +1,6 @@
 -- What the names of a program stand for in its tables.
 use Rattle.std.proofs.Common.{◌≡◌, ℕ, ◌<◌, List, [], map, length, Some, slice_get}
-use Rattle.qk_core.specs.Definitions.{FunctionData, UserGenData, ModelData}
-use Rattle.qk_core.specs.Program.{ProgramData}
+use Rattle.qk_core.specs.Definitions.{FunctionData, UserGenData}
 use Rattle.qk_generators.specs.Drawing.{generator_of}
 use Rattle.qk_headers.specs.Headers.{HeadersData}
 use Rattle.qk_headers.specs.Scopes.{types_of}

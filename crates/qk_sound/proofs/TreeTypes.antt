@@ -1,8 +1,7 @@
 -- What trees are as types has user types of the table alone.
 use Rattle.std.specs.Prelude.{codes}
-use Rattle.std.proofs.Common.{◌≡◌, ◌∙◌, ℕ, suc, ◌<◌, List, [], ◌∷◌, ◌++◌, length, Option, Some, None, refl, sym, ap, subst, arith}
+use Rattle.std.proofs.Common.{◌≡◌, ◌∙◌, ℕ, ◌<◌, List, [], ◌∷◌, ◌++◌, length, Option, Some, None, refl, sym, ap, subst, arith}
 use Rattle.std.proofs.lemmas.List.{append_assoc, append-nil}
-use Rattle.qk_headers.specs.Headers.{HeadersData}
 use Rattle.qk_headers.specs.Scopes.{Scope, types_of, bind, bind_all}
 use Rattle.qk_headers.specs.TypesOf.{former}
 use Rattle.qk_headers.specs.declared.types_of.Former.{Former}
@@ -15,7 +14,7 @@ use Rattle.qk_syntax.specs.PlainTrees.{PlainTree, number, name, list, PlainTrees
 use Rattle.qk_typed.specs.TypedExpressions.{IsType, AreTypes}
 use Rattle.qk_typed.specs.WellTyped.{Each}
 use Rattle.qk_value.specs.Kinds.{KindData}
-use Rattle.qk_value.specs.Types.{TypeData, int_type, bool_type, list_type, pair_type, made_type}
+use Rattle.qk_value.specs.Types.{TypeData, int_type, bool_type}
 use Rattle.qk_wellformed.specs.AreHeaders.{AreTypes as AreTreeTypes}
 use Rattle.qk_wellformed.specs.IsType.{IsType as IsTreeType, IsFormedType, NamesType, plain_type}
 use Rattle.qk_sound.proofs.Found.{entry_holds}
