@@ -1,4 +1,5 @@
 pub mod Bodies
+pub mod Cases
 pub mod Complete
 pub mod Declared
 pub mod Expressions
@@ -10,6 +11,7 @@ pub mod Operators
 pub mod Programs
 pub mod Properties
 pub mod Regular
+pub mod ReservedWords
 pub mod Shapes
 pub mod Stands
 pub mod TreeTypes

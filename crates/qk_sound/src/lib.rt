@@ -3,4 +3,4 @@
 
 mod laws;
 
-pub use laws::programs_are_typed;
+pub use laws::{cases_are_typed, programs_are_typed, reserved_words_are_forms};
