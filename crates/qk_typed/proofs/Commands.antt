@@ -12,7 +12,7 @@ use Rattle.qk_value.specs.Data.{Data, list, datas_of}
 use Rattle.qk_value.specs.Kinds.{KindData}
 use Rattle.qk_value.specs.Types.{TypeData, bool_type, list_type}
 use Rattle.qk_value.specs.Typing.{has_type, all_have_type}
-use Rattle.qk_typed.specs.Laws.{CommandsAreTyped}
+use Rattle.qk_typed.specs.Laws.{CommandsAreTyped, StartsAreTyped, StepsAreTyped}
 use Rattle.qk_typed.specs.TypedValues.{HasType, GivesType}
 use Rattle.qk_typed.specs.WellTyped.{IsWellTyped, IsTypedModel}
 use Rattle.qk_typed.proofs.Programs.{meanings_typed, function_gives, generator_gives}
@@ -52,3 +52,17 @@ model_gives c is m typed size g u =
 
 pub commands_typed : CommandsAreTyped
 commands_typed c is i m size g u e = model_gives c is m (each_at (IsTypedModel c) c.models i m is.models e) size g u
+
+pub starts_typed : StartsAreTyped
+starts_typed c is i m u e =
+    let typed : IsTypedModel c m = each_at (IsTypedModel c) c.models i m is.models e in
+    (meanings_typed c is [] [] m.init m.abstract_ty u tt typed.init, meanings_typed c is [] [] m.start m.system_ty u tt typed.start)
+
+pub steps_typed : StepsAreTyped
+steps_typed c is i m s r x u e h k l =
+    let typed : IsTypedModel c m = each_at (IsTypedModel c) c.models i m is.models e in (
+      function_gives c is m.pre (m.abstract_ty ∷ m.command ∷ []) bool_type (s ∷ x ∷ []) u typed.pre (h, (l, tt)),
+      function_gives c is m.next (m.abstract_ty ∷ m.command ∷ []) m.abstract_ty (s ∷ x ∷ []) u typed.next (h, (l, tt)),
+      function_gives c is m.step (m.system_ty ∷ m.command ∷ []) m.system_ty (r ∷ x ∷ []) u typed.step (k, (l, tt)),
+      function_gives c is m.post (m.abstract_ty ∷ m.command ∷ m.system_ty ∷ []) bool_type (s ∷ x ∷ r ∷ []) u typed.post (h, (l, (k, tt))),
+    )

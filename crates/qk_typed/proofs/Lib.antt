@@ -2,6 +2,7 @@ pub mod Candidates
 pub mod Commands
 pub mod Drawing
 pub mod DrawnValues
+pub mod Judging
 pub mod Places
 pub mod Programs
 pub mod Typing
