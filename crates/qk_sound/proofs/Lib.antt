@@ -11,6 +11,7 @@ pub mod Operators
 pub mod Programs
 pub mod Properties
 pub mod Regular
+pub mod Reported
 pub mod ReservedWords
 pub mod Shapes
 pub mod Stands

@@ -3,4 +3,6 @@
 
 mod laws;
 
-pub use laws::{cases_are_typed, programs_are_typed, reserved_words_are_forms};
+pub use laws::{
+    cases_are_typed, programs_are_typed, reported_values_are_typed, reserved_words_are_forms,
+};
