@@ -5,5 +5,6 @@ pub mod DrawnValues
 pub mod Judging
 pub mod Places
 pub mod Programs
+pub mod Series
 pub mod Typing
 pub mod ValueTypes

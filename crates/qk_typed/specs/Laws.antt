@@ -12,6 +12,7 @@ use Rattle.qk_splitmix.specs.SplitMix.{Generator}
 use Rattle.qk_gen.specs.Drawing.{drawing, drawn}
 use Rattle.qk_command.specs.Drawing.{drawing_commands, drawn_values}
 use Rattle.qk_command.specs.Judging.{model_of}
+use Rattle.qk_series.specs.Cases.{cases}
 use Rattle.qk_shrink.specs.Tuples.{candidates}
 use Rattle.qk_typed.specs.TypedValues.{HasType, HaveTypes, GivesType}
 use Rattle.qk_typed.specs.WellTyped.{Each, HasTypeIn, DrawsIn, IsWellTyped, types_of}
@@ -109,3 +110,7 @@ abbrev pub MarksAreTyped : Type 0
 MarksAreTyped =
     (c : ProgramData) → IsWellTyped c → (i : ℕ) (p : PropertyData) (values : List Data) (u : ℕ) → slice_get c.properties i ≡ Some p
     → HaveTypes c.kinds (types_of p.binders) values → Each (LooksAtTyped c values u) p.marks
+
+-- the cases of an exhaustive run have the binders' types, at each depth
+abbrev pub EnumeratedCasesAreTyped : Type 0
+EnumeratedCasesAreTyped = (c : ProgramData) (p : PropertyData) (d : ℕ) → All (HaveTypes c.kinds (types_of p.binders)) (cases c.kinds d p.binders)

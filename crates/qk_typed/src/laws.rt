@@ -1,5 +1,5 @@
 //! Laws of well-typed programs.
-ghost use Rattle.qk_typed.specs.Laws.{CallsAreTyped, CandidatesAreTyped, ChecksAreTyped, CommandsAreTyped, DrawingsAreTyped, DrawnCallsAreTyped, DrawnValuesAreTyped, GivensAreTyped, JudgedValuesAreTyped, MarksAreTyped, MeaningsAreTyped, RunsAreTyped, StartsAreTyped, StepsAreTyped};
+ghost use Rattle.qk_typed.specs.Laws.{CallsAreTyped, CandidatesAreTyped, ChecksAreTyped, CommandsAreTyped, DrawingsAreTyped, DrawnCallsAreTyped, DrawnValuesAreTyped, EnumeratedCasesAreTyped, GivensAreTyped, JudgedValuesAreTyped, MarksAreTyped, MeaningsAreTyped, RunsAreTyped, StartsAreTyped, StepsAreTyped};
 
 /// A typed expression means a value of its type, or crashes.
 pub fn meanings_are_typed()
@@ -45,4 +45,9 @@ pub fn judging_is_typed()
     ensures checks { ChecksAreTyped }
     ensures runs { RunsAreTyped }
     ensures marks { MarksAreTyped }
+{}
+
+/// The cases of an exhaustive run have the types of the binders, in every program.
+pub fn enumerated_cases_are_typed()
+    ensures { EnumeratedCasesAreTyped }
 {}
