@@ -18,11 +18,14 @@ ProgramsAreTyped = (trees : PlainTrees) (core : ProgramData) → StandsFor trees
 -- what a property is judged on has the types of its binders
 abbrev pub DrawnCasesAreTyped : Type 0
 DrawnCasesAreTyped =
-    (trees : PlainTrees) (core : ProgramData) → StandsFor trees core → (i : ℕ) (p : PropertyData) (size : ℕ) (g : Generator) (u : ℕ) → slice_get core.properties i ≡ Some p
+    (trees : PlainTrees) (core : ProgramData) → StandsFor trees core → (i : ℕ) (p : PropertyData) (size : ℕ) (g : Generator) (u : ℕ)
+    → slice_get core.properties i ≡ Some p
     → (drawn_values core p size g u).crash ≡ None → HaveTypes core.kinds (types_of p.binders) (drawn_values core p size g u).values
 
 -- .. and so have the candidates that are tried in its place
 abbrev pub ShrunkCasesAreTyped : Type 0
 ShrunkCasesAreTyped =
-    (trees : PlainTrees) (core : ProgramData) → StandsFor trees core → (i : ℕ) (p : PropertyData) (values : List Data) (fuel : ℕ) → slice_get core.properties i ≡ Some p
-    → HaveTypes core.kinds (types_of p.binders) values → All (HaveTypes core.kinds (types_of p.binders)) (candidates core p.binders values fuel)
+    (trees : PlainTrees) (core : ProgramData) → StandsFor trees core → (i : ℕ) (p : PropertyData) (values : List Data) (fuel : ℕ)
+    → slice_get core.properties i ≡ Some p
+    → HaveTypes core.kinds (types_of p.binders) values
+    → All (HaveTypes core.kinds (types_of p.binders)) (candidates core p.binders values fuel)

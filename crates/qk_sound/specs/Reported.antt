@@ -21,11 +21,13 @@ pub record IsTypedPoint (c : ProgramData) (p : PropertyData) (point : DrawnValue
 -- what the values of an attempt are shrunk to, greedily or not
 abbrev pub ShrunkPointsAreTyped : Type 0
 ShrunkPointsAreTyped =
-    (trees : PlainTrees) (core : ProgramData) → StandsFor trees core → (i : ℕ) (p : PropertyData) (s : ReportSettings) (k size : ℕ) (m : Minimal DrawnValues) → slice_get core.properties i ≡ Some p
+    (trees : PlainTrees) (core : ProgramData) → StandsFor trees core
+    → (i : ℕ) (p : PropertyData) (s : ReportSettings) (k size : ℕ) (m : Minimal DrawnValues) → slice_get core.properties i ≡ Some p
     → IsShrunk s core p (drawn_at core p s.seed s.fuel k size) m → IsTypedPoint core p m.point
 
 -- .. and where the path of a token leads
 abbrev pub ReplayedPointsAreTyped : Type 0
 ReplayedPointsAreTyped =
-    (trees : PlainTrees) (core : ProgramData) → StandsFor trees core → (i : ℕ) (p : PropertyData) (seed fuel k size : ℕ) (path : List ℕ) (point : DrawnValues) → slice_get core.properties i ≡ Some p
+    (trees : PlainTrees) (core : ProgramData) → StandsFor trees core
+    → (i : ℕ) (p : PropertyData) (seed fuel k size : ℕ) (path : List ℕ) (point : DrawnValues) → slice_get core.properties i ≡ Some p
     → replayed core p seed fuel k size path ≡ Some point → IsTypedPoint core p point

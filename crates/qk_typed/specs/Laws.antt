@@ -27,19 +27,22 @@ MeaningsAreTyped =
 abbrev pub CallsAreTyped : Type 0
 CallsAreTyped =
     (c : ProgramData) → IsWellTyped c → (f : ℕ) (function : FunctionData) (args : List Data) (u : ℕ)
-    → slice_get c.functions f ≡ Some function → HaveTypes c.kinds function.params args → GivesType c.kinds function.result (called c.functions f args u)
+    → slice_get c.functions f ≡ Some function → HaveTypes c.kinds function.params args
+    → GivesType c.kinds function.result (called c.functions f args u)
 
 -- in an environment of these types, a typed generator draws a value of its type, or crashes
 abbrev pub DrawingsAreTyped : Type 0
 DrawingsAreTyped =
-    (c : ProgramData) → IsWellTyped c → (types : List TypeData) (env : List Data) (e : GenData) (t : TypeData) (size : ℕ) (g : Generator) (u : ℕ)
+    (c : ProgramData) → IsWellTyped c
+    → (types : List TypeData) (env : List Data) (e : GenData) (t : TypeData) (size : ℕ) (g : Generator) (u : ℕ)
     → HaveTypes c.kinds types env → DrawsIn c types e t → GivesType c.kinds t (drawing c.functions c.generators e env size g u)
 
 -- .. and so does a generator of the program, with arguments of its parameters' types
 abbrev pub DrawnCallsAreTyped : Type 0
 DrawnCallsAreTyped =
     (c : ProgramData) → IsWellTyped c → (f : ℕ) (generator : UserGenData) (args : List Data) (size : ℕ) (g : Generator) (u : ℕ)
-    → slice_get c.generators f ≡ Some generator → HaveTypes c.kinds generator.params args → GivesType c.kinds generator.result (drawn c.functions c.generators f args size g u)
+    → slice_get c.generators f ≡ Some generator → HaveTypes c.kinds generator.params args
+    → GivesType c.kinds generator.result (drawn c.functions c.generators f args size g u)
 
 -- what is drawn by a model is a list of its commands, unless drawing crashes
 abbrev pub CommandsAreTyped : Type 0
@@ -88,7 +91,8 @@ GivensAreTyped =
 -- .. a check is an expression that is true or false, or crashes
 abbrev pub ChecksAreTyped : Type 0
 ChecksAreTyped =
-    (c : ProgramData) → IsWellTyped c → (i : ℕ) (p : PropertyData) (values : List Data) (u : ℕ) (e : ExprData) → slice_get c.properties i ≡ Some p
+    (c : ProgramData) → IsWellTyped c → (i : ℕ) (p : PropertyData) (values : List Data) (u : ℕ) (e : ExprData)
+    → slice_get c.properties i ≡ Some p
     → HaveTypes c.kinds (types_of p.binders) values → p.check ≡ expression e → GivesType c.kinds bool_type (meaning c.functions e values u)
 
 -- .. or there are a model and a list of its commands to run
