@@ -1,4 +1,5 @@
 //! Batches over files and a text in memory.
+ghost use Rattle.std.specs.Prelude.{◌<◌};
 
 use qk_base::{CalmLibrary, CalmSink, Gate, MeetGate, MemLibrary, MemSink, OpenGate, Status};
 use qk_batch::{run_batch, run_batch_calm};
@@ -34,7 +35,9 @@ fn words_of<R: AllocGlobal>(rt: &R, words: &str) -> Result<Vec<String>, Fail> {
 }
 
 // Files `p`, `q` and `r`, of which each read gives at most so many bytes.
-fn files<R: AllocGlobal>(rt: &R, most: usize) -> Result<MemLibrary, Fail> {
+fn files<R: AllocGlobal>(rt: &R, most: usize) -> Result<MemLibrary, Fail>
+    requires { 0 < most }
+{
     let mut library = MemLibrary::make(rt.alloc(), most);
     library.add(rt.alloc(), "p", FAILS.as_bytes())?;
     library.add(rt.alloc(), "q", PASSES.as_bytes())?;
