@@ -41,6 +41,7 @@ told_by window s = record {
   fuel = s.fuel;
   shrinks = s.shrinks;
   greedy = s.greedy;
+  check_coverage = s.check_coverage;
   told_window = window;
 }
 
@@ -53,6 +54,7 @@ shrunk_by b s = record {
   fuel = s.fuel;
   shrinks = s.shrinks;
   greedy = b;
+  check_coverage = s.check_coverage;
   told_window = s.told_window;
 }
 
@@ -77,6 +79,7 @@ module _ (s : ReportSettings) (c : ProgramData) where
       → ended_block c.kinds number p outcomes (told (told_by window s) c p m cause) f ≡ ended_block c.kinds number p outcomes (told (told_by other s) c p m cause) f
   same_ended window other number p outcomes m cause finish.Passed = refl
   same_ended window other number p outcomes m cause finish.GaveUp = refl
+  same_ended window other number p outcomes m cause (finish.Uncovered clause) = refl
   same_ended window other number p outcomes m cause (finish.Failed k size why) = refl
 
   module _ (n m : ℕ) where
@@ -100,6 +103,8 @@ module _ (s : ReportSettings) (c : ProgramData) where
     block_otherwise work number p finish.Passed text e =
         (property_block c.kinds number p (run_of s c p).done (told (told_by (told_window_of work m) s) c p nothing False), refl, tells_other work number p nothing False text e)
     block_otherwise work number p finish.GaveUp text e =
+        (property_block c.kinds number p (run_of s c p).done (told (told_by (told_window_of work m) s) c p nothing False), refl, tells_other work number p nothing False text e)
+    block_otherwise work number p (finish.Uncovered clause) text e =
         (property_block c.kinds number p (run_of s c p).done (told (told_by (told_window_of work m) s) c p nothing False), refl, tells_other work number p nothing False text e)
     block_otherwise work number p (finish.Failed k size why) text (last, is, e) =
         let cause = unwrap_or (cause_at c p s.fuel last.point) False in (
@@ -145,6 +150,7 @@ module _ (s : ReportSettings) (c : ProgramData) where
       → is_block (shrunk_by true s) c number p f one → is_block (shrunk_by false s) c number p f other → AreShrunkOtherwise c.kinds number p one other
   shrunk_otherwise number p finish.Passed one other e a b = inl (a ∙ sym b)
   shrunk_otherwise number p finish.GaveUp one other e a b = inl (a ∙ sym b)
+  shrunk_otherwise number p (finish.Uncovered clause) one other e a b = inl (a ∙ sym b)
   shrunk_otherwise number p (finish.Failed k size why) one other e (m, is, a) (n, js, b) =
       let t = told s c p m (unwrap_or (cause_at c p s.fuel m.point) False) in
       let u = told s c p n (unwrap_or (cause_at c p s.fuel n.point) False) in

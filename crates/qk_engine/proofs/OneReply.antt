@@ -36,6 +36,7 @@ module _ (s : ReportSettings) (c : ProgramData) (plain : s.greedy ≡ false) whe
   one_of : (number : ℕ) (p : PropertyData) (f : Finish) (text other : List ℕ) → is_block s c number p f text → is_block s c number p f other → text ≡ other
   one_of number p finish.Passed text other a b = a ∙ sym b
   one_of number p finish.GaveUp text other a b = a ∙ sym b
+  one_of number p (finish.Uncovered clause) text other a b = a ∙ sym b
   one_of number p (finish.Failed k size cause) text other (m, is, e) (n, js, f) =
       e ∙ ap (λ (x : Minimal DrawnValues). property_block c.kinds number p (run_of s c p).done (told s c p x (unwrap_or (cause_at c p s.fuel x.point) False)))
       (one_shrunk p (drawn_at c p s.seed s.fuel k size) m n is js) ∙ sym f

@@ -24,7 +24,7 @@ use Rattle.qk_report.proofs.TokenReading.{token_whole, token_sound}
 use Rattle.qk_schedule.specs.declared.finish.Finish.{Finish}
 use Rattle.qk_schedule.specs.declared.finish.Finish.TheVariants as finish
 use Rattle.qk_words.specs.declared.options.OptionName.TheVariants.{Seed, Success, Ratio, MaxSize, Fuel, Workers, Window, Shrinks, Replay, Generate}
-use Rattle.qk_words.specs.declared.options.FlagName.TheVariants.{Greedy, Work}
+use Rattle.qk_words.specs.declared.options.FlagName.TheVariants.{Greedy, Work, CheckCoverage}
 use Rattle.qk_words.specs.Accepted.{IsSpelling, is_one}
 use Rattle.qk_words.specs.Given.{Gives, IsAimGiven, number_given}
 use Rattle.qk_words.specs.Options.{Text, option_text, flag_text}
@@ -93,6 +93,7 @@ module _ (s : ReportSettings) (c : ProgramData) where
   some_of_finish : (number : ℕ) (p : PropertyData) (f : Finish) → (text : List ℕ) × is_block s c number p f text
   some_of_finish number p finish.Passed = (property_block c.kinds number p (run_of s c p).done (told s c p nothing False), refl)
   some_of_finish number p finish.GaveUp = (property_block c.kinds number p (run_of s c p).done (told s c p nothing False), refl)
+  some_of_finish number p (finish.Uncovered clause) = (property_block c.kinds number p (run_of s c p).done (told s c p nothing False), refl)
   some_of_finish number p (finish.Failed k size cause) =
       let m = some_shrunk s.greedy s c p (drawn_at c p s.seed s.fuel k size) in
       (property_block c.kinds number p (run_of s c p).done (told s c p m.0 (unwrap_or (cause_at c p s.fuel m.0.point) False)), (m.0, m.1, refl))
@@ -133,12 +134,13 @@ with_aim ps aim = record {
   shrinks = number_given Shrinks 1000 ps;
   greedy = is_given (flag_text Greedy) ps;
   work = is_given (flag_text Work) ps;
+  check_coverage = is_given (flag_text CheckCoverage) ps;
   aim = aim;
 }
 
 gives_aim : (ps : List Part) (aim : AimData) → IsAimGiven ps aim → Gives ps (with_aim ps aim)
 unfolding with_aim
-gives_aim ps aim given = record { seed = refl; success = refl; ratio = refl; max_size = refl; fuel = refl; workers = refl; window = refl; shrinks = refl; greedy = refl; work = refl; aim = given }
+gives_aim ps aim given = record { seed = refl; success = refl; ratio = refl; max_size = refl; fuel = refl; workers = refl; window = refl; shrinks = refl; greedy = refl; work = refl; check_coverage = refl; aim = given }
 
 module _ (words : List Text) (bytes : List ℕ) (ps : List Part) (spelling : IsSpelling words ps) where
   by_aim : (aim : AimData) → IsAimGiven ps aim → Some_of (Replies words bytes)

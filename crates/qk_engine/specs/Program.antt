@@ -21,16 +21,20 @@ abbrev pub is_passed : Finish → Bool
 is_passed finish.Passed = true
 is_passed finish.GaveUp = false
 is_passed (finish.Failed k size cause) = false
+is_passed (finish.Uncovered clause) = false
 
 abbrev pub is_gave_up : Finish → Bool
 is_gave_up finish.Passed = false
 is_gave_up finish.GaveUp = true
 is_gave_up (finish.Failed k size cause) = false
+is_gave_up (finish.Uncovered clause) = false
 
+-- a property that is not covered counts as failed
 abbrev pub is_failed : Finish → Bool
 is_failed finish.Passed = false
 is_failed finish.GaveUp = false
 is_failed (finish.Failed k size cause) = true
+is_failed (finish.Uncovered clause) = true
 
 -- how the properties end
 abbrev pub finishes : ReportSettings → ProgramData → List PropertyData → List Finish

@@ -12,6 +12,7 @@ settings_told d = record {
   fuel = d.fuel;
   shrinks = d.shrinks;
   greedy = d.greedy;
+  check_coverage = d.check_coverage;
   told_window = told_window_of d.work d.window;
 }
 
@@ -28,6 +29,7 @@ with_workers n d = record {
   shrinks = d.shrinks;
   greedy = d.greedy;
   work = d.work;
+  check_coverage = d.check_coverage;
   aim = d.aim;
 }
 
@@ -44,6 +46,7 @@ with_window n d = record {
   shrinks = d.shrinks;
   greedy = d.greedy;
   work = d.work;
+  check_coverage = d.check_coverage;
   aim = d.aim;
 }
 
@@ -60,5 +63,6 @@ with_greedy b d = record {
   shrinks = d.shrinks;
   greedy = b;
   work = d.work;
+  check_coverage = d.check_coverage;
   aim = d.aim;
 }

@@ -24,5 +24,6 @@ pub fn run_settings(settings: &Settings<'_>) -> RunSettings
         shrinks: settings.shrinks,
         greedy: settings.greedy,
         work: settings.work,
+        check_coverage: settings.check_coverage,
     }
 }

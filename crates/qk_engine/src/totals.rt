@@ -1,10 +1,10 @@
-//! How many properties passed, failed and gave up.
+//! How many properties passed, failed or were not covered, and gave up.
 ghost use Rattle.std.specs.Prelude.{◌≡◌, ◌+◌, ◌<◌, ◌^◌, if◌then◌else◌};
 ghost use Rattle.qk_engine.specs.Program.{is_passed, is_failed, is_gave_up};
 
 use qk_schedule::Finish;
 
-/// How many properties passed, failed and gave up.
+/// How many properties passed, failed or were not covered, and gave up.
 #[derive(Clone, Copy, Debug, PartialEq, Eq)]
 pub struct Totals {
     pub passed: u64,
@@ -40,6 +40,7 @@ impl Totals {
             Finish::Passed => totals.passed += 1,
             Finish::GaveUp => totals.gave_up += 1,
             Finish::Failed { .. } => totals.failed += 1,
+            Finish::Uncovered { .. } => totals.failed += 1,
         }
         totals
     }

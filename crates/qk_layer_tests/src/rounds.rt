@@ -2,6 +2,7 @@
 ghost use Rattle.std.specs.Prelude.{◌≡◌, ℕ, nat_eq, [], length, if◌then◌else◌};
 ghost use Rattle.qk_base.specs.declared.outcome.Verdict.TheVariants as verdicts;
 ghost use Rattle.qk_base.specs.declared.outcome.Cause.TheVariants as causes;
+ghost use Rattle.qk_schedule.specs.LimitsData.{InRange};
 
 use qk_base::{Bytes, Cause, Marks, Memory, OpenGate, Outcome, Seq, Tally, Verdict};
 use qk_rounds::{Finish, Slots, Trial, Work, drive, drive_freely, round};
@@ -69,12 +70,17 @@ impl Tally for Added {
     }
 }
 
-const USUAL: Limits = Limits {
-    success: 100,
-    ratio: 10,
-    max_size: 100,
-    covers: 0,
-};
+fn usual(alloc: Global) -> Limits
+    ensures { InRange result × (result.covers ≡ []) }
+{
+    Limits {
+        success: 100,
+        ratio: 10,
+        max_size: 100,
+        covers: Seq::make(alloc),
+        decide: false,
+    }
+}
 
 const FOURTEEN: Work = Work {
     windows: 14,
@@ -105,7 +111,7 @@ const RUNS: [(u32, u32, Work); 5] = [
 
 #[test]
 fn runs_do_not_depend_on_workers(rt: HostRuntime) -> Result<(), Fail> {
-    let course = QuickCourse::make(USUAL);
+    let course = QuickCourse::make(usual(rt.alloc()));
     for (workers, window, work) in RUNS {
         let mut trial = Sizes { first: 0, count: 0 };
         let mut tally = Added { count: 0 };
@@ -131,7 +137,7 @@ fn runs_do_not_depend_on_workers(rt: HostRuntime) -> Result<(), Fail> {
 
 #[test]
 fn free_runs_do_not_depend_on_workers(rt: HostRuntime) -> Result<(), Fail> {
-    let course = QuickCourse::make(USUAL);
+    let course = QuickCourse::make(usual(rt.alloc()));
     for workers in [1, 2, 64] {
         let mut trial = Sizes { first: 0, count: 0 };
         let mut tally = Added { count: 0 };
@@ -156,7 +162,7 @@ fn free_runs_do_not_depend_on_workers(rt: HostRuntime) -> Result<(), Fail> {
 #[test]
 fn a_round_stores_answers_up_to_the_first_failure(rt: HostRuntime) -> Result<(), Fail> {
     let trial = Sizes { first: 0, count: 8 };
-    let course = QuickCourse::make(USUAL);
+    let course = QuickCourse::make(usual(rt.alloc()));
     let state = course.start(rt.alloc())?;
     let mut slots = Slots::make(rt.alloc(), 8)?;
     let stored = round(

@@ -1,18 +1,32 @@
 //! The calls of a course that allocate, where there is memory.
 
-use qk_base::{Bytes, Marks, Outcome, Seq, Verdict};
+ghost use Rattle.std.specs.Prelude.{◌≡◌, [], ◌∷◌, IfOk};
+ghost use Rattle.qk_schedule.specs.LimitsData.{InRange};
+
+use qk_base::{Bytes, Marks, Memory, Outcome, Seq, Verdict};
 use qk_schedule::{Course, Limits, QuickCourse};
+use std::alloc::Global;
 use std::test::Fail;
 
-#[test]
-fn covers_of_a_pass_are_counted(rt: HostRuntime) -> Result<(), Fail> {
-    let limits = Limits {
+/// Two cover clauses, which want 50 percent each.
+fn limits_of(alloc: Global, decide: bool) -> Result<Limits, Memory>
+    ensures { IfOk result (λ limits. InRange limits × (limits.covers ≡ 50 ∷ 50 ∷ [])) }
+{
+    let mut covers = Seq::make(alloc);
+    covers.add(50)?;
+    covers.add(50)?;
+    Ok(Limits {
         success: 100,
         ratio: 10,
         max_size: 100,
-        covers: 2,
-    };
-    let course = QuickCourse::make(limits);
+        covers,
+        decide,
+    })
+}
+
+#[test]
+fn covers_of_a_pass_are_counted(rt: HostRuntime) -> Result<(), Fail> {
+    let course = QuickCourse::make(limits_of(rt.alloc(), false)?);
     let mut state = course.start(rt.alloc())?;
     assert_eq!(rt; state.covers.as_slice(), [0, 0].as_slice());
     let mut covers = Seq::make(rt.alloc());

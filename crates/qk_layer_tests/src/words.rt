@@ -99,6 +99,9 @@ seed 1 | not accepted
 --seed=1 f --seed 2 | not accepted
 --greedy f --greedy | not accepted
 --work --work f | not accepted
+--check-coverage --check-coverage f | not accepted
+--check-coverage=true f | not accepted
+--check f | not accepted
 --seed --seed f | not accepted
 --seed --greedy f | not accepted
 --greedy=1 f | not accepted
@@ -108,6 +111,8 @@ seed 1 | not accepted
 --works f | not accepted
 --greedy f | 0 100 10 100 100000 4 64 1000 greedy file f
 f --work | 0 100 10 100 100000 4 64 1000 work file f
+f --check-coverage --work | 0 100 10 100 100000 4 64 1000 work check-coverage file f
+--check-coverage --generate 8 | 0 100 10 100 100000 4 64 1000 check-coverage generate 8
 --work f --greedy | 0 100 10 100 100000 4 64 1000 greedy work file f
 --seed 7 --window=8 --greedy f --work --shrinks 0 | 7 100 10 100 100000 4 8 0 greedy work file f
 --workers 64 --fuel=1 --max-size 1000 --ratio=1 --success 1 f | 0 1 1 1000 1 64 64 1000 file f
@@ -162,9 +167,14 @@ fn settings_text(alloc: Global, settings: &Settings<'_>) -> Result<String, Fail>
     let aim = aim_text(alloc, &s.aim)?;
     let greedy = if s.greedy { " greedy" } else { "" };
     let work = if s.work { " work" } else { "" };
+    let check = if s.check_coverage {
+        " check-coverage"
+    } else {
+        ""
+    };
     let sizes = format!(in alloc; "{} {} {} {}", s.seed, s.success, s.ratio, s.max_size)?;
     let limits = format!(in alloc; "{} {} {} {}", s.fuel, s.workers, s.window, s.shrinks)?;
-    Ok(format!(in alloc; "{sizes} {limits}{greedy}{work} {aim}")?)
+    Ok(format!(in alloc; "{sizes} {limits}{greedy}{work}{check} {aim}")?)
 }
 
 fn given_text(alloc: Global, words: &[String]) -> Result<String, Fail> {

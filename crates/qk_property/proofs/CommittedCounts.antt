@@ -2,8 +2,8 @@
 use Rattle.std.proofs.Common.{◌≡◌, ◌∙◌, ℕ, zero, suc, ◌+◌, ◌<◌, ◌≤◌, Bool, true, false, Some, None, List, [], ◌∷◌, ◌++◌, length, filter, refl, sym, ap, subst, arith, length-append}
 use Rattle.std.proofs.lemmas.List.Elements.{filter-append}
 use Rattle.qk_base.specs.Judged.{Judged, cause_of, passes}
-use Rattle.qk_schedule.specs.declared.limits.Limits.{Limits}
 use Rattle.qk_schedule.specs.Counts.{Counts, raised}
+use Rattle.qk_schedule.specs.LimitsData.{LimitsData}
 use Rattle.qk_schedule.specs.Quick.{rules_of, IsProper}
 use Rattle.qk_schedule.specs.QuickLaws.{start_proper, step_proper}
 use Rattle.qk_schedule.specs.Schedule.{stop_at, step_at}
@@ -11,7 +11,7 @@ use Rattle.qk_schedule.specs.Sequential.{Run, from_by, sequential}
 use Rattle.qk_schedule.proofs.SequentialRun.{from_by-stopped, from_by-failed, from_by-goes_on}
 
 -- the successes are the outcomes that passed, the discards are the others, and the state is one that can come up
-pub record IsCounted (limits : Limits) (s : Counts) (done : List Judged) : Type 0 where
+pub record IsCounted (limits : LimitsData) (s : Counts) (done : List Judged) : Type 0 where
   pub passed : length (filter passes done) ≡ s.successes
   pub all : length done ≡ s.successes + s.discards
   pub proper : IsProper limits s
@@ -34,7 +34,7 @@ filtered done o b e =
     let one = filtered-one o b e in
     omega (arith, ap length both, parts, one)
 
-module _ (limits : Limits) where
+module _ (limits : LimitsData) where
   counted_step : (s : Counts) (o : Judged) (done : List Judged) → IsCounted limits s done → stop_at limits s ≡ None → IsCounted limits (step_at s o) (done ++ o ∷ [])
   counted_step s o done counted running =
       let before = counted.passed in

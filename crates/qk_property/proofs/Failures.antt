@@ -5,10 +5,10 @@ use Rattle.qk_base.specs.Judged.{Judged, cause_of}
 use Rattle.qk_base.specs.declared.outcome.Cause.{Cause}
 use Rattle.qk_schedule.specs.declared.finish.Finish.{Finish}
 use Rattle.qk_schedule.specs.declared.finish.Finish.TheVariants.{Failed}
-use Rattle.qk_schedule.specs.declared.limits.Limits.{Limits}
 use Rattle.qk_schedule.specs.declared.stop.Stop.{Stop}
-use Rattle.qk_schedule.specs.declared.stop.Stop.TheVariants.{Passed, GaveUp}
+use Rattle.qk_schedule.specs.declared.stop.Stop.TheVariants.{Passed, GaveUp, Uncovered}
 use Rattle.qk_schedule.specs.Counts.{Counts}
+use Rattle.qk_schedule.specs.LimitsData.{LimitsData}
 use Rattle.qk_schedule.specs.Quick.{rules_of}
 use Rattle.qk_schedule.specs.Schedule.{size_at, stop_at, step_at}
 use Rattle.qk_schedule.specs.Sequential.{Run, finish_of, from_by, sequential}
@@ -19,14 +19,14 @@ either P true m n first second = first
 either P false m n first second = second
 
 -- no size is greater than the greatest
-size_held : (limits : Limits) (n r : ℕ) → size_at limits n r ≤ limits.max_size
+size_held : (limits : LimitsData) (n r : ℕ) → size_at limits n r ≤ limits.max_size
 size_held limits n r =
     let most = limits.max_size in
     let wanted = limits.success in
     either (λ size. size ≤ most) (nat_le (n / most * most + most) wanted || nat_le wanted n || (wanted % most == 0)) (min (n % most + r / 10) most) (min (n % most * most / (wanted % most) + r / 10) most)
     (min-le_right (n % most + r / 10) most) (min-le_right (n % most * most / (wanted % most) + r / 10) most)
 
-module _ (limits : Limits) (outcome : ℕ → ℕ → Judged) where
+module _ (limits : LimitsData) (outcome : ℕ → ℕ → Judged) where
   -- the attempt at which the run failed fails with that cause, at a size that runs have
   abbrev pub BlamesFinish : Finish → Type 0
   BlamesFinish finish = (n size : ℕ) (cause : Cause) → finish ≡ Failed n size cause → (cause_of (outcome n size).verdict ≡ Some cause) × (size ≤ limits.max_size)
@@ -37,6 +37,7 @@ module _ (limits : Limits) (outcome : ℕ → ℕ → Judged) where
   stop_blames : (why : Stop) → BlamesFinish (finish_of why)
   stop_blames Passed n size cause e = absurd (cc)
   stop_blames GaveUp n size cause e = absurd (cc)
+  stop_blames (Uncovered clause) n size cause e = absurd (cc)
 
   fail_blames : (k z : ℕ) (c : Cause) → cause_of (outcome k z).verdict ≡ Some c → z ≤ limits.max_size → BlamesFinish (Failed k z c)
   fail_blames k z c fails small n size cause e =

@@ -1,5 +1,6 @@
 -- An attempt that does not fail is taken by the course and by the tables of its property: its marks are as many as the clauses.
-use Rattle.std.proofs.Common.{◌≡◌, ◌∙◌, ℕ, suc, List, [], ◌∷◌, length, Some, None, refl, sym, ap, subst}
+use Rattle.std.proofs.Common.{◌≡◌, ◌∙◌, ℕ, suc, ◌<◌, ◌^◌, List, [], ◌∷◌, length, Some, None, refl, sym, ap, subst}
+use Rattle.std.proofs.lemmas.List.{length-map}
 use Rattle.std.specs.List.{filter_map}
 use Rattle.qk_base.specs.Judged.{Judged, Marked, DoesNotFail}
 use Rattle.qk_base.specs.declared.outcome.Verdict.{Verdict}
@@ -20,12 +21,11 @@ use Rattle.qk_report.specs.Counted.{Fits, IsTaken}
 use Rattle.qk_report.specs.Tables.{class_names, table_names, wanted_of}
 use Rattle.qk_schedule.specs.Course.{TakesAll}
 use Rattle.qk_schedule.specs.Quick.{TakesVerdict, Takes}
-use Rattle.qk_schedule.specs.Schedule.{InRange}
-use Rattle.qk_schedule.specs.declared.limits.Limits.{Limits}
+use Rattle.qk_schedule.specs.LimitsData.{LimitsData, InRange}
 use Rattle.qk_splitmix.specs.Attempts.{attempt_gen}
 use Rattle.qk_splitmix.specs.SplitMix.{Generator}
 use Rattle.qk_property.specs.Attempts.{outcome}
-use Rattle.qk_property.specs.Running.{limits_of}
+use Rattle.qk_property.specs.Running.{limits_of, percents_of}
 use Rattle.qk_property.specs.Settings.{AreInRange, report_settings}
 use Rattle.qk_property.specs.declared.settings.RunSettings.{RunSettings}
 use Rattle.qk_value.specs.Data.{Data}
@@ -97,7 +97,7 @@ module _ (p : PropertyData) where
   pub attempt_is_taken : (c : ProgramData) (size : ℕ) (g : Generator) (u : ℕ) → DoesNotFail (attempted c p size g u) → IsTaken p (attempted c p size g u)
   attempt_is_taken c size g u passed = let d = drawn_values c p size g u in of_drawn c u d.values d.crash passed
 
-  of_verdict : (limits : Limits) → limits.covers ≡ length (wanted_of p.marks) → (v : Verdict) (m : Marked) → IsTaken p (record { verdict = v; marks = m }) → TakesVerdict limits.covers v (length m.covers)
+  of_verdict : (limits : LimitsData) → length limits.covers ≡ length (wanted_of p.marks) → (v : Verdict) (m : Marked) → IsTaken p (record { verdict = v; marks = m }) → TakesVerdict (length limits.covers) v (length m.covers)
   of_verdict limits covers Pass m fits = fits.covers ∙ sym covers
   of_verdict limits covers Discard m taken = tt
   of_verdict limits covers (Fail cause) m taken = absurd taken
@@ -107,7 +107,7 @@ module _ (p : PropertyData) where
   tables_take c seed fuel = λ k size small passed. attempt_is_taken c size (attempt_gen seed k) fuel passed
 
   -- and so does the course of as many covers
-  pub course_takes : (limits : Limits) → limits.covers ≡ length (wanted_of p.marks) → (c : ProgramData) (seed fuel : ℕ) → TakesAll (Takes limits) (outcome c p seed fuel)
+  pub course_takes : (limits : LimitsData) → length limits.covers ≡ length (wanted_of p.marks) → (c : ProgramData) (seed fuel : ℕ) → TakesAll (Takes limits) (outcome c p seed fuel)
   course_takes limits covers c seed fuel = λ k size small passed.
       let o = outcome c p seed fuel k size in
       of_verdict limits covers o.verdict o.marks (attempt_is_taken c size (attempt_gen seed k) fuel passed)
@@ -117,9 +117,13 @@ pub tables_take_at : (p q r : PropertyData) → q ≡ p → r ≡ p → (c : Pro
 tables_take_at p q r of_q of_r c seed fuel =
     subst (λ (x : PropertyData). TakesAll (IsTaken x) (outcome c q seed fuel)) (of_q ∙ sym of_r) (tables_take q c seed fuel)
 
-pub course_takes_at : (p q : PropertyData) (limits : Limits) → q ≡ p → limits.covers ≡ length (wanted_of p.marks) → (c : ProgramData) (seed fuel : ℕ) → TakesAll (Takes limits) (outcome c q seed fuel)
+pub course_takes_at : (p q : PropertyData) (limits : LimitsData) → q ≡ p → length limits.covers ≡ length (wanted_of p.marks) → (c : ProgramData) (seed fuel : ℕ) → TakesAll (Takes limits) (outcome c q seed fuel)
 course_takes_at p q limits same covers c seed fuel = course_takes q limits (covers ∙ ap (λ (x : PropertyData). length (wanted_of x.marks)) (sym same)) c seed fuel
 
+-- there are as many percentages as cover clauses
+pub as_many_percents : (marks : List MarkData) → length (percents_of marks) ≡ length (wanted_of marks)
+as_many_percents marks = length-map (wanted_of marks) (λ w. w.percent)
+
 -- the limits of a run are in range
-pub limits_in_range : (s : RunSettings) (p : PropertyData) → AreInRange s → InRange (limits_of (report_settings s) p)
-limits_in_range s p ok = record { some_success = ok.some_success; success = ok.success; some_ratio = ok.some_ratio; ratio = ok.ratio; some_size = ok.some_size; max_size = ok.max_size }
+pub limits_in_range : (s : RunSettings) (p : PropertyData) → AreInRange s → length (percents_of p.marks) < 2 ^ 32 → InRange (limits_of (report_settings s) p)
+limits_in_range s p ok few = record { some_success = ok.some_success; success = ok.success; some_ratio = ok.some_ratio; ratio = ok.ratio; some_size = ok.some_size; max_size = ok.max_size; clauses = few }

@@ -12,6 +12,8 @@ use Rattle.qk_report.specs.PropertyBlock.{ToldData, property_block}
 use Rattle.qk_report.specs.ToldView.{IsFitting}
 use Rattle.qk_rounds.specs.Run.{attempts, failing}
 use Rattle.qk_rounds.specs.declared.work.Work.{Work}
+use Rattle.qk_schedule.specs.CheckpointLaws.{greatest_checkpoint}
+use Rattle.qk_schedule.specs.Checkpoints.{last_checkpoint}
 use Rattle.qk_schedule.specs.Counts.{Counts}
 use Rattle.qk_schedule.specs.declared.finish.Finish.TheVariants.{Failed}
 use Rattle.qk_property.specs.Attempts.{outcome, drawn_at}
@@ -42,18 +44,21 @@ module _ (s : RunSettings) (c : ProgramData) (p : PropertyData) where
   pub fitting : (tested : Tested) → IsTested s c p tested → IsFitting tested.tables tested.state.successes (run_of (report_settings s) c p).done
   fitting tested is = record { stands = is.tables; successes_are = counts.passed ∙ ap (λ (n : Counts). n.successes) (sym is.run.state_is) }
 
+  most_successes : AreInRange s → last_checkpoint (limits_of (report_settings s) p) ≤ 1_000_000
+  most_successes ok = greatest_checkpoint (limits_of (report_settings s) p) ok.success
+
   pub few_successes : (tested : Tested) → AreInRange s → IsTested s c p tested → tested.state.successes ≤ 1000000
   few_successes tested ok is =
       let same = ap (λ (n : Counts). n.successes) is.run.state_is in
       let few = counts.proper.successes in
-      let most = ok.success in
-      omega (arith, same, few, most)
+      let last = most_successes ok in
+      omega (arith, same, few, last)
 
   pub few_discards : (tested : Tested) → AreInRange s → IsTested s c p tested → tested.state.discards ≤ 100000000
   few_discards tested ok is =
       let same = ap (λ (n : Counts). n.discards) is.run.state_is in
       let few = counts.proper.discards in
-      let wide : s.ratio * s.success ≤ s.ratio * 1000000 = mul-le-mul_left s.ratio ok.success in
+      let wide : s.ratio * last_checkpoint (limits_of (report_settings s) p) ≤ s.ratio * 1000000 = mul-le-mul_left s.ratio (most_successes ok) in
       let most = ok.ratio in
       omega (arith, same, few, wide, most)
 

@@ -51,6 +51,7 @@ nothing = record { point = record { values = []; crash = None }; path = []; trie
 abbrev pub is_block : ReportSettings → ProgramData → ℕ → PropertyData → Finish → List ℕ → Type 0
 is_block s c number p finish.Passed text = text ≡ property_block c.kinds number p (run_of s c p).done (told s c p nothing False)
 is_block s c number p finish.GaveUp text = text ≡ property_block c.kinds number p (run_of s c p).done (told s c p nothing False)
+is_block s c number p (finish.Uncovered clause) text = text ≡ property_block c.kinds number p (run_of s c p).done (told s c p nothing False)
 is_block s c number p (finish.Failed k size cause) text =
     (m : Minimal DrawnValues) × IsShrunk s c p (drawn_at c p s.seed s.fuel k size) m
     × (text ≡ property_block c.kinds number p (run_of s c p).done (told s c p m (unwrap_or (cause_at c p s.fuel m.point) False)))

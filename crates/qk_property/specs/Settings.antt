@@ -24,6 +24,7 @@ pub record ReportSettings : Type 0 where
   pub fuel : ℕ
   pub shrinks : ℕ
   pub greedy : Bool
+  pub check_coverage : Bool
   pub told_window : Option ℕ
 
 abbrev pub told_window_of : Bool → ℕ → Option ℕ
@@ -38,5 +39,6 @@ report_settings s = record {
   fuel = s.fuel;
   shrinks = s.shrinks;
   greedy = s.greedy;
+  check_coverage = s.check_coverage;
   told_window = told_window_of s.work s.window;
 }

@@ -59,6 +59,7 @@ fn failing(finish: Finish) -> u64
     match finish {
         Finish::Passed => 0,
         Finish::GaveUp => 0,
+        Finish::Uncovered { .. } => 0,
         Finish::Failed { .. } => 1,
     }
 }

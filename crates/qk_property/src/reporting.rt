@@ -73,6 +73,7 @@ fn block_text<R: Threads + Sync, G: Gate>(
     match tested.finish {
         Finish::Passed => ended_text(alloc, core, number, property, settings, tested),
         Finish::GaveUp => ended_text(alloc, core, number, property, settings, tested),
+        Finish::Uncovered { .. } => ended_text(alloc, core, number, property, settings, tested),
         Finish::Failed {
             attempt,
             size,
@@ -109,7 +110,7 @@ fn last_point<R: Threads + Sync, G: Gate>(
     shrink(rt, alloc, gate, core, property, settings, point)
 }
 
-// The block of a property that passed or gave up.
+// The block of a property that did not fail.
 fn ended_text(
     alloc: Global,
     core: &Core,

@@ -23,4 +23,6 @@ pub struct RunSettings {
     pub greedy: bool,
     /// Whether a block ends with a line on its work.
     pub work: bool,
+    /// Whether a property with cover clauses runs until its coverage is decided.
+    pub check_coverage: bool,
 }

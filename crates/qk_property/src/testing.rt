@@ -1,14 +1,13 @@
 //! The attempts of a property, up to the end of its run.
-ghost use Rattle.std.specs.Prelude.{◌≡◌, ◌<◌, length, map, IfOk};
+ghost use Rattle.std.specs.Prelude.{◌≡◌, ◌<◌, ◌^◌, length, map, IfOk};
 ghost use Rattle.qk_core.specs.PropertyView.{view_mark};
 ghost use Rattle.qk_property.specs.Ended.{IsTested};
-ghost use Rattle.qk_property.specs.Running.{limits_of};
+ghost use Rattle.qk_property.specs.Running.{limits_of, percents_of};
 ghost use Rattle.qk_property.specs.Settings.{AreInRange, report_settings};
-ghost use Rattle.qk_report.specs.Tables.{wanted_of};
 
 use crate::settings::RunSettings;
 use crate::trial::PropertyTrial;
-use qk_base::{Gate, Memory};
+use qk_base::{Gate, Memory, Seq};
 use qk_core::{Core, Mark, Property};
 use qk_report::Tables;
 use qk_rounds::{Ended, Reached, Work, drive, drive_freely};
@@ -39,7 +38,7 @@ pub fn test_property<'c, R: Threads + Sync, G: Gate>(
     requires { AreInRange settings.now }
     ensures { IfOk result (λ tested. IsTested settings.now core.now property.now tested) }
 {
-    let limits = limits_for(property, settings)?;
+    let limits = limits_for(alloc, property, settings)?;
     let course = QuickCourse::make(limits);
     let mut trial = PropertyTrial::make(alloc, core, property, settings.seed, settings.fuel);
     let mut tables = Tables::make(alloc, property)?;
@@ -83,31 +82,37 @@ pub fn test_property<'c, R: Threads + Sync, G: Gate>(
 }
 
 // The limits of a property's run.
-fn limits_for(property: &Property, settings: &RunSettings) -> Result<Limits, Memory>
-    ensures { IfOk result (λ limits. limits ≡ limits_of (report_settings settings.now) property.now) }
+fn limits_for(
+    alloc: Global,
+    property: &Property,
+    settings: &RunSettings,
+) -> Result<Limits, Memory>
+    ensures limits { IfOk result (λ limits. limits ≡ limits_of (report_settings settings.now) property.now) }
+    ensures few { IfOk result (λ limits. length limits.covers < 2 ^ 32) }
 {
-    let covers = cover_count(property.marks.as_slice())?;
+    let covers = wanted_percents(alloc, property.marks.as_slice())?;
+    // So many clauses have no room in memory.
+    if covers.len() > u32::MAX as usize {
+        return Err(Memory);
+    }
     Ok(Limits {
         success: settings.success,
         ratio: settings.ratio,
         max_size: settings.max_size,
         covers,
+        decide: settings.check_coverage,
     })
 }
 
-// How many cover clauses there are.
-fn cover_count(marks: &[Mark]) -> Result<u32, Memory>
-    ensures { IfOk result (λ count. count ≡ length (wanted_of (map view_mark marks.now))) }
+// The percentage that each cover clause wants.
+fn wanted_percents(alloc: Global, marks: &[Mark]) -> Result<Seq<u32>, Memory>
+    ensures { IfOk result (λ percents. percents.items ≡ percents_of (map view_mark marks.now)) }
 {
-    // So many marks have no room in memory.
-    if marks.len() > u32::MAX as usize {
-        return Err(Memory);
-    }
-    let mut count = 0;
+    let mut percents = Seq::make(alloc);
     for mark in marks {
-        if matches!(mark, Mark::Cover(..)) {
-            count += 1;
+        if let Mark::Cover(percent, ..) = mark {
+            percents.add(*percent)?;
         }
     }
-    Ok(count)
+    Ok(percents)
 }

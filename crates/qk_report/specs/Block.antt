@@ -37,6 +37,9 @@ passed_block p n discards = first_line p.name (codes "passed ") n discards
 abbrev pub gave_up_block : PropertyData → ℕ → ℕ → List ℕ
 gave_up_block p n discards = first_line p.name (codes "gave up after ") n discards
 
+abbrev pub uncovered_block : PropertyData → ℕ → ℕ → List ℕ
+uncovered_block p n discards = first_line p.name (codes "not covered after ") n discards
+
 -- the failing attempt counts as a test
 abbrev pub failed_block : List KindData → ℕ → PropertyData → ℕ → ℕ → FailureData → List ℕ
 failed_block kinds number p n discards f =

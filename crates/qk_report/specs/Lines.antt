@@ -91,6 +91,6 @@ replay_line token = line (codes "replay: " ++ token_text token)
 abbrev pub work_line : ℕ × ℕ × ℕ → List ℕ
 work_line work = line (named (codes "work: windows ") work.0 ++ named (codes ", rounds ") work.1 ++ named (codes ", trials ") work.2)
 
--- the last line: how many properties there were, and how many passed, failed and gave up
+-- the last line: how many properties there were, and how many passed, failed or were not covered, and gave up
 abbrev pub last_line : ℕ → ℕ → ℕ → ℕ → List ℕ
 last_line properties passed failed gave_up = line (named (codes "properties: ") properties ++ named (codes ", passed ") passed ++ named (codes ", failed ") failed ++ named (codes ", gave up ") gave_up)

@@ -7,7 +7,7 @@ use Rattle.qk_schedule.specs.declared.finish.Finish.{Finish}
 use Rattle.qk_schedule.specs.declared.finish.Finish.TheVariants as finish
 use Rattle.qk_value.specs.Data.{Data}
 use Rattle.qk_value.specs.Kinds.{KindData}
-use Rattle.qk_report.specs.Block.{FailureData, passed_block, gave_up_block, failed_block}
+use Rattle.qk_report.specs.Block.{FailureData, passed_block, gave_up_block, uncovered_block, failed_block}
 use Rattle.qk_report.specs.Lines.{work_line}
 use Rattle.qk_report.specs.TableLines.{tables_text}
 
@@ -49,6 +49,7 @@ work_text (Some work) = work_line work
 abbrev pub ended_block : List KindData → ℕ → PropertyData → List Judged → ToldData → Finish → List ℕ
 ended_block kinds number p outcomes t finish.Passed = passed_block p t.successes t.discards ++ tables_text p outcomes
 ended_block kinds number p outcomes t finish.GaveUp = gave_up_block p t.successes t.discards ++ tables_text p outcomes
+ended_block kinds number p outcomes t (finish.Uncovered clause) = uncovered_block p t.successes t.discards ++ tables_text p outcomes
 ended_block kinds number p outcomes t (finish.Failed k size cause) = failed_block kinds number p t.successes t.discards (failure_of t k size)
 
 abbrev pub property_block : List KindData → ℕ → PropertyData → List Judged → ToldData → List ℕ

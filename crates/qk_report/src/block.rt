@@ -1,6 +1,6 @@
 //! The block of a property.
 ghost use Rattle.std.specs.Prelude.{◌≡◌, ◌<◌, ◌-◌, ◌^◌, ◌++◌, OnOk};
-ghost use Rattle.qk_report.specs.Block.{counterexample, failed_block, gave_up_block, passed_block, replayed_block};
+ghost use Rattle.qk_report.specs.Block.{counterexample, failed_block, gave_up_block, passed_block, replayed_block, uncovered_block};
 ghost use Rattle.qk_report.specs.FailureView.{failure_behind, failure_in};
 ghost use Rattle.qk_report.specs.Lines.{attempt_line, cause_line};
 
@@ -42,6 +42,20 @@ pub fn put_gave_up_block(
 {
     let name = property.name.as_slice();
     put_first_line(alloc, text, name, "gave up after ", successes, discards)
+}
+
+/// Adds the block of a property whose coverage was decided, and which misses a cover clause.
+pub fn put_uncovered_block(
+    alloc: Global,
+    text: &mut Bytes,
+    property: &Property,
+    successes: u64,
+    discards: u64,
+) -> Result<(), Memory>
+    ensures { OnOk result (text.new.items ≡ text.old.items ++ uncovered_block property.now successes discards) }
+{
+    let name = property.name.as_slice();
+    put_first_line(alloc, text, name, "not covered after ", successes, discards)
 }
 
 /// Adds the block of a property that failed; the failing attempt counts as a test.

@@ -21,7 +21,9 @@ mod tokens;
 mod told;
 mod value_lines;
 
-pub use block::{put_failed_block, put_gave_up_block, put_passed_block, put_replayed_block};
+pub use block::{
+    put_failed_block, put_gave_up_block, put_passed_block, put_replayed_block, put_uncovered_block,
+};
 pub use failure::Failure;
 pub use lines::{put_cause_line, put_last_line};
 pub use numerals::number_of;

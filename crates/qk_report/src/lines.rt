@@ -147,7 +147,7 @@ pub(crate) fn put_work_line(
     put(text, "\n")
 }
 
-/// Adds the last line: how many properties there were, and how many passed, failed and gave up.
+/// Adds the last line: how many properties there were, and how many passed, failed or were not covered, and gave up.
 pub fn put_last_line(
     alloc: Global,
     text: &mut Bytes,

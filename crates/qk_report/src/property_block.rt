@@ -1,12 +1,12 @@
 //! The block of a property, with its tables and its work.
 ghost use Rattle.std.specs.Prelude.{◌≡◌, ◌<◌, ◌-◌, ◌^◌, ◌++◌, List, IfOk, OnOk};
 ghost use Rattle.qk_base.specs.Judged.{Judged};
-ghost use Rattle.qk_report.specs.Block.{gave_up_block, passed_block};
+ghost use Rattle.qk_report.specs.Block.{gave_up_block, passed_block, uncovered_block};
 ghost use Rattle.qk_report.specs.PropertyBlock.{ended_block, property_block, work_text};
 ghost use Rattle.qk_report.specs.TableLines.{tables_text};
 ghost use Rattle.qk_report.specs.ToldView.{IsFitting, told_in};
 
-use crate::block::{put_failure, put_gave_up_block, put_passed_block};
+use crate::block::{put_failure, put_gave_up_block, put_passed_block, put_uncovered_block};
 use crate::lines::put_work_line;
 use crate::table_lines::put_tables;
 use crate::tables::Tables;
@@ -75,6 +75,9 @@ fn put_ended(
     match told.finish {
         Finish::Passed => put_passed(alloc, text, tables, told.successes, told.discards),
         Finish::GaveUp => put_gave_up(alloc, text, tables, told.successes, told.discards),
+        Finish::Uncovered { .. } => {
+            put_uncovered(alloc, text, tables, told.successes, told.discards)
+        }
         Finish::Failed {
             attempt,
             size,
@@ -121,5 +124,19 @@ fn put_gave_up(
         → text.new.items ≡ text.old.items ++ (gave_up_block tables.now.property.now successes discards ++ tables_text tables.now.property.now outcomes)) }
 {
     put_gave_up_block(alloc, text, tables.property(), successes, discards)?;
+    put_tables(alloc, text, tables, successes)
+}
+
+fn put_uncovered(
+    alloc: Global,
+    text: &mut Bytes,
+    tables: &Tables<'_>,
+    successes: u64,
+    discards: u64,
+) -> Result<(), Memory>
+    ensures { OnOk result ((outcomes : List Judged) → IsFitting tables.now successes outcomes
+        → text.new.items ≡ text.old.items ++ (uncovered_block tables.now.property.now successes discards ++ tables_text tables.now.property.now outcomes)) }
+{
+    put_uncovered_block(alloc, text, tables.property(), successes, discards)?;
     put_tables(alloc, text, tables, successes)
 }

@@ -92,6 +92,7 @@ prefix_reached rules plans outcome proper window stands_for s n work reached =
 pub failing-stopped : (why : Stop) → failing (finish_of why) ≡ 0
 failing-stopped stops.Passed = refl
 failing-stopped stops.GaveUp = refl
+failing-stopped (stops.Uncovered clause) = refl
 
 pub ends_stopped : {S P : Type 0} (rules : Rules S) (plans : Plans S P) (outcome : ℕ → ℕ → Judged) (proper : S → Type 0) (window : ℕ) (stands_for : List Judged → Type 0) (s : S) (n : ℕ) (work : Work) (why : Stop) (finish : Finish)
     → Reached rules plans outcome proper window stands_for s n work → rules.stop s ≡ Some why → finish ≡ finish_of why

@@ -31,6 +31,7 @@ pub(crate) fn ended_by(stop: Stop) -> Finish
     match stop {
         Stop::Passed => Finish::Passed,
         Stop::GaveUp => Finish::GaveUp,
+        Stop::Uncovered(clause) => Finish::Uncovered { clause },
     }
 }
 

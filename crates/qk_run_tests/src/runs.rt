@@ -7,6 +7,7 @@ use std::test::Fail;
 use std::thread::Threads;
 
 mod calm;
+mod coverage;
 mod failures;
 mod generated;
 mod marks;

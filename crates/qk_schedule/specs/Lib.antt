@@ -1,5 +1,9 @@
+pub mod Checked
+pub mod CheckpointLaws
+pub mod Checkpoints
 pub mod Counts
 pub mod Course
+pub mod LimitsData
 pub mod Quick
 pub mod QuickLaws
 pub mod Schedule

@@ -5,15 +5,16 @@ use Rattle.std.proofs.Math.Nat.{add-le-add, le_refl, min-le_right}
 use Rattle.qk_base.specs.Judged.{Judged}
 use Rattle.qk_base.specs.declared.outcome.Verdict.{Verdict}
 use Rattle.qk_base.specs.declared.outcome.Verdict.TheVariants.{Pass, Discard, Fail}
-use Rattle.qk_schedule.specs.declared.limits.Limits.{Limits}
 use Rattle.qk_schedule.specs.declared.plan.Plan.{Plan}
+use Rattle.qk_schedule.specs.Checkpoints.{last_checkpoint, target, at_checkpoint}
 use Rattle.qk_schedule.specs.Counts.{Counts}
 use Rattle.qk_schedule.specs.Course.{Rules, Plans}
+use Rattle.qk_schedule.specs.LimitsData.{LimitsData}
 use Rattle.qk_schedule.specs.Schedule.{size_at, stop_at, step_at, rest_at}
 
-abbrev pub rules_of : Limits → Rules Counts
+abbrev pub rules_of : LimitsData → Rules Counts
 rules_of limits = record {
-  start = record { successes = 0; discards = 0; recent = 0; covers = replicate limits.covers 0 };
+  start = record { successes = 0; discards = 0; recent = 0; covers = replicate (length limits.covers) 0 };
   size = λ c. size_at limits c.successes c.recent;
   step = step_at;
   stop = stop_at limits;
@@ -28,12 +29,12 @@ abbrev pub plan_step_of : Plan → Bool → Plan
 plan_step_of p true = record { successes = p.successes + 1; discards = p.discards; recent = 0; ordered = zero-le }
 plan_step_of p false = record { successes = p.successes; discards = p.discards + 1; recent = p.recent + 1; ordered = add-le-add p.ordered (le_refl 1) }
 
-abbrev pub plans_of : Limits → Plans Counts Plan
+abbrev pub plans_of : LimitsData → Plans Counts Plan
 plans_of limits = record {
   plan = plan_of;
   size = λ p. size_at limits p.successes p.recent;
   step = plan_step_of;
-  ends = λ p. nat_le limits.success p.successes || nat_le (limits.ratio * limits.success) p.discards;
+  ends = λ p. at_checkpoint limits p.successes || nat_le (limits.ratio * target limits p.successes) p.discards;
 }
 
 -- the verdicts that are taken: every Discard, and each Pass with as many covers as there are cover clauses
@@ -42,18 +43,18 @@ TakesVerdict clauses Pass covers = covers ≡ clauses
 TakesVerdict clauses Discard covers = Unit {0}
 TakesVerdict clauses (Fail cause) covers = ⊥
 
-abbrev pub Takes : Limits → Judged → Type 0
-Takes limits outcome = TakesVerdict limits.covers outcome.verdict (length outcome.marks.covers)
+abbrev pub Takes : LimitsData → Judged → Type 0
+Takes limits outcome = TakesVerdict (length limits.covers) outcome.verdict (length outcome.marks.covers)
 
 -- a state that can come up
-pub record IsProper (limits : Limits) (c : Counts) : Type 0 where
-  pub successes : c.successes ≤ limits.success
-  pub discards : c.discards ≤ limits.ratio * limits.success
+pub record IsProper (limits : LimitsData) (c : Counts) : Type 0 where
+  pub successes : c.successes ≤ last_checkpoint limits
+  pub discards : c.discards ≤ limits.ratio * last_checkpoint limits
   pub recent : c.recent ≤ c.discards
-  pub clauses : length c.covers ≡ limits.covers
+  pub clauses : length c.covers ≡ length limits.covers
   pub covers : All (λ count. count ≤ c.successes) c.covers
 
--- a plan at which the run does not stop
-pub record GoesOn (limits : Limits) (p : Plan) : Type 0 where
-  pub successes : p.successes < limits.success
-  pub discards : p.discards < limits.ratio * limits.success
+-- a plan from which a run may go on
+pub record GoesOn (limits : LimitsData) (p : Plan) : Type 0 where
+  pub successes : p.successes < last_checkpoint limits
+  pub discards : p.discards < limits.ratio * last_checkpoint limits

@@ -17,6 +17,7 @@ pub record Run (S : Type 0) : Type 0 where
 abbrev pub finish_of : Stop → Finish
 finish_of stop.Passed = finish.Passed
 finish_of stop.GaveUp = finish.GaveUp
+finish_of (stop.Uncovered clause) = finish.Uncovered clause
 
 -- the run from a state on, where at most `fuel` attempts are left
 abbrev pub from_by : {S : Type 0} → Rules S → (ℕ → ℕ → Judged) → ℕ → S → ℕ → List Judged → Run S

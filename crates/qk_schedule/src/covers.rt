@@ -6,7 +6,7 @@ use qk_base::{Memory, Seq};
 use std::alloc::Global;
 
 /// As many counts, all 0.
-pub(crate) fn no_counts(alloc: Global, count: u32) -> Result<Seq<u64>, Memory>
+pub(crate) fn no_counts(alloc: Global, count: usize) -> Result<Seq<u64>, Memory>
     ensures { IfOk result (λ counts. counts.items ≡ replicate count 0) }
 {
     let mut counts = Seq::make(alloc);

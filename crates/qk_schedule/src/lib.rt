@@ -1,7 +1,9 @@
 //! The course of a run: its state, the size of the next attempt, and where it stops.
 #![tactic(auto)]
 
+mod checkpoints;
 mod course;
+mod coverage;
 mod covers;
 mod finish;
 mod limits;

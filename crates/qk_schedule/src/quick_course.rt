@@ -1,8 +1,10 @@
 //! The course that a property's run takes.
 ghost use Rattle.std.specs.Prelude.{◌≡◌};
-ghost use Rattle.qk_schedule.specs.Schedule.{InRange};
+ghost use Rattle.qk_schedule.specs.LimitsData.{InRange};
 
+use crate::checkpoints::{decides, is_at_checkpoint, next_checkpoint};
 use crate::course::Course;
+use crate::coverage::coverage;
 use crate::covers::{no_counts, raise};
 use crate::limits::Limits;
 use crate::plan::Plan;
@@ -13,7 +15,8 @@ use qk_base::{Memory, Outcome, Verdict};
 use std::alloc::Global;
 
 /// The course that a property's run takes, after QuickCheck 2: sizes rise in rounds, and the run stops at the wanted successes
-/// or at too many discards.
+/// or at too many discards. A run that decides its coverage stops at the first checkpoint where a cover clause is clearly missed or all
+/// are clearly met. The test is on whole numbers, and is this project's own.
 #[derive(Drop)]
 pub struct QuickCourse {
     limits: Limits,
@@ -21,12 +24,37 @@ pub struct QuickCourse {
 }
 
 impl QuickCourse {
+    ghost use Rattle.std.specs.Prelude.{true};
+    ghost use Rattle.qk_schedule.specs.LimitsData.{decides};
+    ghost use Rattle.qk_schedule.specs.Quick.{IsProper};
+    ghost use Rattle.qk_schedule.specs.Schedule.{stop_at};
+
     /// The course within some limits.
     pub fn make(limits: Limits) -> QuickCourse
         requires { InRange limits }
         ensures { result.limits ≡ limits }
     {
         QuickCourse { limits }
+    }
+
+    // Where a run that decides its coverage stops.
+    fn decided_stop(&self, state: &State) -> Option<Stop>
+        requires decides { decides self.now.limits ≡ true }
+        requires proper { IsProper self.now.limits state.now }
+        ensures { result ≡ stop_at self.now.limits state.now }
+    {
+        let n = state.successes;
+        if is_at_checkpoint(&self.limits, n) {
+            let stop = coverage(&self.limits, n, state.covers.as_slice());
+            if stop.is_some() {
+                return stop;
+            }
+        }
+        if state.discards >= self.limits.ratio * next_checkpoint(&self.limits, n) {
+            Some(Stop::GaveUp)
+        } else {
+            None
+        }
     }
 }
 
@@ -53,12 +81,12 @@ impl Course for QuickCourse {
             successes: 0,
             discards: 0,
             recent: 0,
-            covers: no_counts(alloc, self.limits.covers)?,
+            covers: no_counts(alloc, self.limits.covers.len())?,
         })
     }
 
     fn size(&self, state: &State) -> u32 {
-        size_of(self.limits, state.successes, state.recent)
+        size_of(&self.limits, state.successes, state.recent)
     }
 
     fn step(&self, state: &mut State, outcome: &Outcome) {
@@ -73,7 +101,9 @@ impl Course for QuickCourse {
     }
 
     fn stop(&self, state: &State) -> Option<Stop> {
-        if state.successes >= self.limits.success {
+        if decides(&self.limits) {
+            self.decided_stop(state)
+        } else if state.successes >= self.limits.success {
             Some(Stop::Passed)
         } else if state.discards >= self.limits.ratio * self.limits.success {
             Some(Stop::GaveUp)
@@ -91,7 +121,7 @@ impl Course for QuickCourse {
     }
 
     fn plan_size(&self, plan: Plan) -> u32 {
-        size_of(self.limits, plan.successes, plan.recent)
+        size_of(&self.limits, plan.successes, plan.recent)
     }
 
     fn plan_step(&self, plan: Plan, pass: bool) -> Plan {
@@ -111,8 +141,8 @@ impl Course for QuickCourse {
     }
 
     fn plan_ends(&self, plan: Plan) -> bool {
-        plan.successes >= self.limits.success
-            || plan.discards >= self.limits.ratio * self.limits.success
+        is_at_checkpoint(&self.limits, plan.successes)
+            || plan.discards >= self.limits.ratio * next_checkpoint(&self.limits, plan.successes)
     }
 
     ghost taken_does_not_fail = { λ c o taken. taken_passes c.limits o taken };

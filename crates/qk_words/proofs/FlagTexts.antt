@@ -10,7 +10,7 @@ use Rattle.clap.specs.declared.parser.matches.ValueSource.TheVariants.{DefaultVa
 use Rattle.qk_words.specs.declared.options.OptionName.{OptionName}
 use Rattle.qk_words.specs.declared.options.OptionName.TheVariants.{Seed, Success, Ratio, MaxSize, Fuel, Workers, Window, Shrinks, Replay, Generate}
 use Rattle.qk_words.specs.declared.options.FlagName.{FlagName}
-use Rattle.qk_words.specs.declared.options.FlagName.TheVariants.{Greedy, Work}
+use Rattle.qk_words.specs.declared.options.FlagName.TheVariants.{Greedy, Work, CheckCoverage}
 use Rattle.qk_words.specs.Accepted.{IsSpelling}
 use Rattle.qk_words.specs.Options.{option_text, flag_text}
 use Rattle.qk_words.specs.Parts.{Part, split, joined, flag, file, key_of, value_of, is_given}
@@ -23,28 +23,39 @@ use Rattle.qk_words.proofs.Taken.{spelling_walks}
 pub option_is_no_flag : (n : OptionName) (f : FlagName) → bytes_eq (option_text n) (flag_text f) ≡ false
 option_is_no_flag Seed Greedy = refl
 option_is_no_flag Seed Work = refl
+option_is_no_flag Seed CheckCoverage = refl
 option_is_no_flag Success Greedy = refl
 option_is_no_flag Success Work = refl
+option_is_no_flag Success CheckCoverage = refl
 option_is_no_flag Ratio Greedy = refl
 option_is_no_flag Ratio Work = refl
+option_is_no_flag Ratio CheckCoverage = refl
 option_is_no_flag MaxSize Greedy = refl
 option_is_no_flag MaxSize Work = refl
+option_is_no_flag MaxSize CheckCoverage = refl
 option_is_no_flag Fuel Greedy = refl
 option_is_no_flag Fuel Work = refl
+option_is_no_flag Fuel CheckCoverage = refl
 option_is_no_flag Workers Greedy = refl
 option_is_no_flag Workers Work = refl
+option_is_no_flag Workers CheckCoverage = refl
 option_is_no_flag Window Greedy = refl
 option_is_no_flag Window Work = refl
+option_is_no_flag Window CheckCoverage = refl
 option_is_no_flag Shrinks Greedy = refl
 option_is_no_flag Shrinks Work = refl
+option_is_no_flag Shrinks CheckCoverage = refl
 option_is_no_flag Replay Greedy = refl
 option_is_no_flag Replay Work = refl
+option_is_no_flag Replay CheckCoverage = refl
 option_is_no_flag Generate Greedy = refl
 option_is_no_flag Generate Work = refl
+option_is_no_flag Generate CheckCoverage = refl
 
 file_is_no_flag : (f : FlagName) → bytes_eq (codes "file") (flag_text f) ≡ false
 file_is_no_flag Greedy = refl
 file_is_no_flag Work = refl
+file_is_no_flag CheckCoverage = refl
 
 module _ (key : Text) where
   -- a row of the key is not changed by a row behind it
@@ -157,6 +168,7 @@ rule_for f = unwrap_or (find (λ r. bytes_eq r.id (flag_text f)) shape.rules) (f
 missing_is : (f : FlagName) (rows : List Row) → has_row (flag_text f) rows ≡ false → one_of (flag_text f) (fold with_default rows shape.rules) ≡ Some (codes "false")
 missing_is Greedy rows h = default_comes (codes "greedy") shape.rules rows (rule_for Greedy) (codes "false") h refl refl refl
 missing_is Work rows h = default_comes (codes "work") shape.rules rows (rule_for Work) (codes "false") h refl refl refl
+missing_is CheckCoverage rows h = default_comes (codes "check-coverage") shape.rules rows (rule_for CheckCoverage) (codes "false") h refl refl refl
 
 module _ (f : FlagName) where
   past : (p : Part) (ps : List Part) (b : Bool) → b ≡ false → (is_given (flag_text f) ps ≡ true → one_of (flag_text f) (map row ps) ≡ Some (codes "true"))

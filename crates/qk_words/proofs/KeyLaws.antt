@@ -8,7 +8,7 @@ use Rattle.std.specs.Str.{bytes_eq}
 use Rattle.qk_words.specs.declared.options.OptionName.{OptionName}
 use Rattle.qk_words.specs.declared.options.OptionName.TheVariants.{Seed, Success, Ratio, MaxSize, Fuel, Workers, Window, Shrinks, Replay, Generate}
 use Rattle.qk_words.specs.declared.options.FlagName.{FlagName}
-use Rattle.qk_words.specs.declared.options.FlagName.TheVariants.{Greedy, Work}
+use Rattle.qk_words.specs.declared.options.FlagName.TheVariants.{Greedy, Work, CheckCoverage}
 use Rattle.qk_words.specs.declared.walk.State.{State}
 use Rattle.qk_words.specs.Options.{Text, option_text, flag_text}
 use Rattle.qk_words.specs.Parts.{Part, split, joined, flag, file, key_of, value_of, is_given}
@@ -33,7 +33,7 @@ text_of the_file = codes "file"
 abbrev pub place_of : Key → ℕ
 place_of (an_option n) = option_place n
 place_of (a_flag f) = flag_place f
-place_of the_file = 12
+place_of the_file = 13
 
 pub key_is : (p : Part) → text_of (key p) ≡ key_of p
 key_is (split n v) = refl
@@ -68,10 +68,12 @@ joined_read Generate v = refl
 pub flag_unread : (f : FlagName) → option_of (flag_text f) ≡ None
 flag_unread Greedy = refl
 flag_unread Work = refl
+flag_unread CheckCoverage = refl
 
 pub flag_read : (f : FlagName) → flag_of (flag_text f) ≡ Some f
 flag_read Greedy = refl
 flag_read Work = refl
+flag_read CheckCoverage = refl
 
 -- the key back from its text, and from its place
 abbrev of_option : Option (OptionName × Option Text) → Option FlagName → Key
@@ -89,7 +91,7 @@ text_back the_file = refl
 
 abbrev at_place : ℕ → Key
 at_place n =
-    if n == 0 then an_option Seed else (if n == 1 then an_option Success else (if n == 2 then an_option Ratio else (if n == 3 then an_option MaxSize else (if n == 4 then an_option Fuel else (if n == 5 then an_option Workers else (if n == 6 then an_option Window else (if n == 7 then an_option Shrinks else (if n == 8 then an_option Replay else (if n == 9 then an_option Generate else (if n == 10 then a_flag Greedy else (if n == 11 then a_flag Work else (the_file))))))))))))
+    if n == 0 then an_option Seed else (if n == 1 then an_option Success else (if n == 2 then an_option Ratio else (if n == 3 then an_option MaxSize else (if n == 4 then an_option Fuel else (if n == 5 then an_option Workers else (if n == 6 then an_option Window else (if n == 7 then an_option Shrinks else (if n == 8 then an_option Replay else (if n == 9 then an_option Generate else (if n == 10 then a_flag Greedy else (if n == 11 then a_flag Work else (if n == 12 then a_flag CheckCoverage else (the_file)))))))))))))
 
 place_back : (k : Key) → at_place (place_of k) ≡ k
 place_back (an_option Seed) = refl
@@ -104,6 +106,7 @@ place_back (an_option Replay) = refl
 place_back (an_option Generate) = refl
 place_back (a_flag Greedy) = refl
 place_back (a_flag Work) = refl
+place_back (a_flag CheckCoverage) = refl
 place_back the_file = refl
 
 one_truth : (a b : Bool) → (a ≡ true → b ≡ true) → (b ≡ true → a ≡ true) → a ≡ b
@@ -124,7 +127,7 @@ option_one m n e = ap first (sym (split_read m) ∙ ap option_of ((bytes_decides
     first (Some p) = p.0
     first None = m
 
-place_below : (k : Key) → place_of k < 13
+place_below : (k : Key) → place_of k < 14
 place_below (an_option Seed) = lit< tt
 place_below (an_option Success) = lit< tt
 place_below (an_option Ratio) = lit< tt
@@ -137,10 +140,11 @@ place_below (an_option Replay) = lit< tt
 place_below (an_option Generate) = lit< tt
 place_below (a_flag Greedy) = lit< tt
 place_below (a_flag Work) = lit< tt
+place_below (a_flag CheckCoverage) = lit< tt
 place_below the_file = lit< tt
 
 -- what is marked is there; else nothing changes
-pub mark_has : (k l : Key) (s : State) → length s.seen ≡ 13 → has (place_of l) (marked (place_of k) s) ≡ (bytes_eq (text_of k) (text_of l) || has (place_of l) s)
+pub mark_has : (k l : Key) (s : State) → length s.seen ≡ 14 → has (place_of l) (marked (place_of k) s) ≡ (bytes_eq (text_of k) (text_of l) || has (place_of l) s)
 mark_has k l s whole = by (place_of k == place_of l) refl ∙ ap (λ b. b || has (place_of l) s) (sym (same_key k l))
   where
     by : (b : Bool) → (place_of k == place_of l) ≡ b → get_or (set s.seen (place_of k) true) (place_of l) false ≡ (b || get_or s.seen (place_of l) false)
@@ -148,10 +152,10 @@ mark_has k l s whole = by (place_of k == place_of l) refl ∙ ap (λ b. b || has
         (get_or-set_same s.seen (place_of k) true false (subst (λ n. place_of k < n) (sym whole) (place_below k)))
     by false e = get_or-set_other s.seen (place_of k) (place_of l) true false (λ q. eqb-false (place_of k) (place_of l) e (sym q))
 
-pub mark_length : (k : Key) (s : State) → length s.seen ≡ 13 → length (marked (place_of k) s).seen ≡ 13
+pub mark_length : (k : Key) (s : State) → length s.seen ≡ 14 → length (marked (place_of k) s).seen ≡ 14
 mark_length k s whole = length-set s.seen (place_of k) true ∙ whole
 
-pub part_has : (p q : Part) (s : State) → length s.seen ≡ 13 → has (place_of (key q)) (marked (place_of (key p)) s) ≡ (bytes_eq (key_of p) (key_of q) || has (place_of (key q)) s)
+pub part_has : (p q : Part) (s : State) → length s.seen ≡ 14 → has (place_of (key q)) (marked (place_of (key p)) s) ≡ (bytes_eq (key_of p) (key_of q) || has (place_of (key q)) s)
 part_has p q s whole = mark_has (key p) (key q) s whole
     ∙ ap (λ t. bytes_eq t (text_of (key q)) || has (place_of (key q)) s) (key_is p) ∙ ap (λ t. bytes_eq (key_of p) t || has (place_of (key q)) s) (key_is q)
 
@@ -171,6 +175,6 @@ swapped true true c = refl
 swapped true false c = refl
 swapped false b c = refl
 
-pub there_after : (k : Key) (p : Part) (s : State) (ps : List Part) → length s.seen ≡ 13 → is_there k (marked (place_of (key p)) s) ps ≡ is_there k s (p ∷ ps)
+pub there_after : (k : Key) (p : Part) (s : State) (ps : List Part) → length s.seen ≡ 14 → is_there k (marked (place_of (key p)) s) ps ≡ is_there k s (p ∷ ps)
 there_after k p s ps whole = ap (λ b. b || is_given (text_of k) ps) (mark_has (key p) k s whole ∙ ap (λ t. bytes_eq t (text_of k) || has (place_of k) s) (key_is p))
     ∙ swapped (bytes_eq (key_of p) (text_of k)) (has (place_of k) s) (is_given (text_of k) ps) ∙ ap (λ b. has (place_of k) s || b) (sym (given_more (text_of k) p ps))

@@ -8,7 +8,7 @@ use Rattle.qk_report.proofs.TokenReading.{one_token}
 use Rattle.qk_words.specs.declared.options.OptionName.{OptionName}
 use Rattle.qk_words.specs.declared.options.OptionName.TheVariants.{Seed, Success, Ratio, MaxSize, Fuel, Workers, Window, Shrinks, Replay, Generate}
 use Rattle.qk_words.specs.declared.options.FlagName.{FlagName}
-use Rattle.qk_words.specs.declared.options.FlagName.TheVariants.{Greedy, Work}
+use Rattle.qk_words.specs.declared.options.FlagName.TheVariants.{Greedy, Work, CheckCoverage}
 use Rattle.qk_words.specs.Accepted.{is_one, has_aim, replays_file, IsSpelling}
 use Rattle.qk_words.specs.Given.{number_given, IsAimGiven, Gives, AreSettings, HasBadToken}
 use Rattle.qk_words.specs.Options.{Text, option_text, flag_text}
@@ -77,6 +77,7 @@ one_gives ps qs s t aim same g h = λ i. record {
   shrinks = (g.shrinks ∙ sym (h.shrinks ∙ number_same ps qs same Shrinks 1000)) i;
   greedy = (g.greedy ∙ sym (h.greedy ∙ sym (same.flags Greedy))) i;
   work = (g.work ∙ sym (h.work ∙ sym (same.flags Work))) i;
+  check_coverage = (g.check_coverage ∙ sym (h.check_coverage ∙ sym (same.flags CheckCoverage))) i;
   aim = one_aim ps s.aim t.aim aim g.aim (aim_same ps qs same t.aim h.aim) i;
 }
 

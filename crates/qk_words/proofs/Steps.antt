@@ -9,7 +9,7 @@ use Rattle.clap.specs.declared.builder.value_parser.ValueParser.TheVariants as p
 use Rattle.qk_words.specs.declared.options.OptionName.{OptionName}
 use Rattle.qk_words.specs.declared.options.OptionName.TheVariants.{Seed, Success, Ratio, MaxSize, Fuel, Workers, Window, Shrinks, Replay, Generate}
 use Rattle.qk_words.specs.declared.options.FlagName.{FlagName}
-use Rattle.qk_words.specs.declared.options.FlagName.TheVariants.{Greedy, Work}
+use Rattle.qk_words.specs.declared.options.FlagName.TheVariants.{Greedy, Work, CheckCoverage}
 use Rattle.qk_words.specs.QuickerCommand.{quicker}
 use Rattle.qk_words.specs.Options.{option_text, flag_text}
 use Rattle.qk_words.specs.Parts.{Part, split, joined, flag, file, key_of, value_of}
@@ -80,6 +80,7 @@ module _ (R : List Row) (P : Option (Text × List Text)) (k : ℕ) (ok : settle_
   pub flag_passes : (f : FlagName) → has_row (flag_text f) (settled_rows shape.rules P R) ≡ false → turn_passes shape [] (at R P k) (flag_word f) ≡ true
   flag_passes Greedy h = both_on _ _ ok h
   flag_passes Work h = both_on _ _ ok h
+  flag_passes CheckCoverage h = both_on _ _ ok h
 
 pub split_walks : (R : List Row) (P : Option (Text × List Text)) (k : ℕ) (n : OptionName) → walked shape.rules [] (at R P k) (split_word n) ≡ mid (settled_rows shape.rules P R) (option_text n) k
 unfolding walked
@@ -151,6 +152,7 @@ module _ (R : List Row) (P : Option (Text × List Text)) (k : ℕ) where
   unfolding walked
   flag_walks Greedy h = ap (λ rows. at rows None k) (used_new _ _ (codes "true") _ h)
   flag_walks Work h = ap (λ rows. at rows None k) (used_new _ _ (codes "true") _ h)
+  flag_walks CheckCoverage h = ap (λ rows. at rows None k) (used_new _ _ (codes "true") _ h)
 
 -- what waits to be used
 pub split_used : (R : List Row) (n : OptionName) (v : Text) → has_row (option_text n) R ≡ false → settled_rows shape.rules (Some (option_text n, v ∷ [])) R ≡ R ++ row (split n v) ∷ []

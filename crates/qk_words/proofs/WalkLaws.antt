@@ -9,7 +9,7 @@ use Rattle.std.specs.Str.{bytes_eq}
 use Rattle.qk_words.specs.declared.options.OptionName.{OptionName}
 use Rattle.qk_words.specs.declared.options.OptionName.TheVariants.{Seed, Success, Ratio, MaxSize, Fuel, Workers, Window, Shrinks, Replay, Generate}
 use Rattle.qk_words.specs.declared.options.FlagName.{FlagName}
-use Rattle.qk_words.specs.declared.options.FlagName.TheVariants.{Greedy, Work}
+use Rattle.qk_words.specs.declared.options.FlagName.TheVariants.{Greedy, Work, CheckCoverage}
 use Rattle.qk_words.specs.declared.walk.State.{State}
 use Rattle.qk_words.specs.Accepted.{is_one, IsAccepted}
 use Rattle.qk_words.specs.Options.{Text, option_text, flag_text}
@@ -41,7 +41,7 @@ and_both a b p q = rw (p, q) refl
 
 -- a state has a place for each key
 abbrev IsWhole : State → Type 0
-IsWhole s = length s.seen ≡ 13
+IsWhole s = length s.seen ≡ 14
 
 still_unseen : (p : Part) (ps : List Part) (s : State) → IsWhole s → are_unseen s ps ≡ true → is_new p ps ≡ true → are_unseen (mark p s) ps ≡ true
 still_unseen p [] s w h k = refl
@@ -73,7 +73,7 @@ or_nothing true = refl
 or_nothing false = refl
 
 aimed_at_end : (s : State) → is_aimed s [] ≡ ends_well s
-aimed_at_end s = λ i. aims (or_nothing (has 12 s) i) (or_nothing (has 9 s) i) (or_nothing (has 8 s) i)
+aimed_at_end s = λ i. aims (or_nothing (has 13 s) i) (or_nothing (has 9 s) i) (or_nothing (has 8 s) i)
 
 plain_strip : (x : ℕ) (xs : List ℕ) → (x == 45) ≡ false → strip (codes "--") (x ∷ xs) ≡ None
 plain_strip x xs e = rw e refl
@@ -89,7 +89,7 @@ module _ (s : State) (w : s.waits ≡ None) where
   flag_step : (f : FlagName) → has (flag_place f) s ≡ false → step s (codes "--" ++ flag_text f) ≡ Some (marked (flag_place f) s)
   flag_step f h = ap (λ o. step_by o s (codes "--" ++ flag_text f)) w ∙ ap (λ o. step_option o s (flag_text f)) (flag_unread f) ∙ ap (λ o. step_flag o s) (flag_read f) ∙ rw h refl
 
-  file_step : (x : ℕ) (xs : List ℕ) → (x == 45) ≡ false → has 12 s ≡ false → step s (x ∷ xs) ≡ Some (marked 12 s)
+  file_step : (x : ℕ) (xs : List ℕ) → (x == 45) ≡ false → has 13 s ≡ false → step s (x ∷ xs) ≡ Some (marked 13 s)
   file_step x xs e h = ap (λ o. step_by o s (x ∷ xs)) w ∙ ap (λ o. step_part o s (x ∷ xs)) (plain_strip x xs e) ∙ rw (e, h) refl
 
 value_step : (s : State) (n : OptionName) (v : Text) → (is_plain v && fits n v) ≡ true → step (record s { waits = Some n }) v ≡ Some (record s { waits = None })
@@ -117,7 +117,7 @@ complete (p ∷ ps) s w whole parts once unseen aimed =
         (value_step (marked (option_place n) s) n v part ∙ ap (λ t. Some t) (no_wait (marked (option_place n) s) w)) rest)
     by (flag f) part new rest = goes s (marked (flag_place f) s) (codes "--" ++ flag_text f) (spelled ps) (flag_step s w f new) rest
     by (file []) part new rest = absurd (true≢false (sym part))
-    by (file (x ∷ xs)) part new rest = goes s (marked 12 s) (x ∷ xs) (spelled ps) (file_step s w x xs (not_true _ part) new) rest
+    by (file (x ∷ xs)) part new rest = goes s (marked 13 s) (x ∷ xs) (spelled ps) (file_step s w x xs (not_true _ part) new) rest
 
 -- ---- and the other way
 
@@ -187,12 +187,14 @@ option_is : (w : Text) (q : OptionName × Option Text) → option_of w ≡ Some 
 option_is w q e = ⊎_elim (first_is loop_options w q) (first_is other_options w q) (or_some (first_named loop_options w) (first_named other_options w) q e)
 
 flag_is : (w : Text) (f : FlagName) → flag_of w ≡ Some f → w ≡ flag_text f
-flag_is w f e = by (bytes_eq w (flag_text Greedy)) refl (bytes_eq w (flag_text Work)) refl e
+flag_is w f e = by (bytes_eq w (flag_text Greedy)) refl (bytes_eq w (flag_text Work)) refl (bytes_eq w (flag_text CheckCoverage)) refl e
   where
-    by : (a : Bool) → bytes_eq w (flag_text Greedy) ≡ a → (b : Bool) → bytes_eq w (flag_text Work) ≡ b → (if a then Some Greedy else (if b then Some Work else None)) ≡ Some f → w ≡ flag_text f
-    by true p b q k = (bytes_decides w (flag_text Greedy)).0 p ∙ ap flag_text (some_eq Greedy f k)
-    by false p true q k = (bytes_decides w (flag_text Work)).0 q ∙ ap flag_text (some_eq Work f k)
-    by false p false q k = absurd (none_some f k)
+    by : (a : Bool) → bytes_eq w (flag_text Greedy) ≡ a → (b : Bool) → bytes_eq w (flag_text Work) ≡ b → (c : Bool) → bytes_eq w (flag_text CheckCoverage) ≡ c
+        → (if a then Some Greedy else (if b then Some Work else (if c then Some CheckCoverage else None))) ≡ Some f → w ≡ flag_text f
+    by true p b q c r k = (bytes_decides w (flag_text Greedy)).0 p ∙ ap flag_text (some_eq Greedy f k)
+    by false p true q c r k = (bytes_decides w (flag_text Work)).0 q ∙ ap flag_text (some_eq Work f k)
+    by false p false q true r k = (bytes_decides w (flag_text CheckCoverage)).0 r ∙ ap flag_text (some_eq CheckCoverage f k)
+    by false p false q false r k = absurd (none_some f k)
 
 abbrev Plainly : List Text → Type 0
 Plainly ws = (s : State) → s.waits ≡ None → IsWhole s → is_good ws s ≡ true → Spells s ws
@@ -234,8 +236,8 @@ module _ (ws : List Text) (s : State) (e : s.waits ≡ None) (whole : IsWhole s)
   flag_case w ih f is true g k = absurd (true≢false (sym k))
   flag_case w ih f is false g k = subst (λ t. Spells s (t ∷ ws)) (sym is) (add (flag f) s ws whole refl g (ih (marked (flag_place f) s) e (mark_length (a_flag f) s whole) k))
 
-  file_case : (w : Text) → Plainly ws → (a b : Bool) → is_plain w ≡ a → has 12 s ≡ b → option_map_or (is_good ws) (if a && not b then Some (marked 12 s) else None) false ≡ true → Spells s (w ∷ ws)
-  file_case w ih true false f g k = add (file w) s ws whole f g (ih (marked 12 s) e (mark_length the_file s whole) k)
+  file_case : (w : Text) → Plainly ws → (a b : Bool) → is_plain w ≡ a → has 13 s ≡ b → option_map_or (is_good ws) (if a && not b then Some (marked 13 s) else None) false ≡ true → Spells s (w ∷ ws)
+  file_case w ih true false f g k = add (file w) s ws whole f g (ih (marked 13 s) e (mark_length the_file s whole) k)
   file_case w ih true true f g k = absurd (true≢false (sym k))
   file_case w ih false b f g k = absurd (true≢false (sym k))
 
@@ -250,7 +252,7 @@ module _ (ws : List Text) (s : State) (e : s.waits ≡ None) (whole : IsWhole s)
 
   part_case : (w : Text) → Plainly ws → Waiting ws → (o : Option Text) → strip (codes "--") w ≡ o → option_map_or (is_good ws) (step_part o s w) false ≡ true → Spells s (w ∷ ws)
   part_case w plainly waiting (Some name) q k = named_case w name plainly waiting (strip_is (codes "--") w name q) (option_of name) refl k
-  part_case w plainly waiting None q k = file_case w plainly (is_plain w) (has 12 s) refl refl k
+  part_case w plainly waiting None q k = file_case w plainly (is_plain w) (has 13 s) refl refl k
 
 plain_case : (w : Text) (ws : List Text) → Plainly ws → Waiting ws → Plainly (w ∷ ws)
 plain_case w ws plainly waiting s e whole h = part_case ws s e whole w plainly waiting (strip (codes "--") w) refl (sym (ap (λ o. option_map_or (is_good ws) (step_by o s w) false) e) ∙ h)
@@ -295,6 +297,7 @@ unseen_at_first (p ∷ ps) = and_both _ _ (by p) (unseen_at_first ps)
     by (joined Generate v) = refl
     by (flag Greedy) = refl
     by (flag Work) = refl
+    by (flag CheckCoverage) = refl
     by (file f) = refl
 
 pub good_is_accepted : (ws : List Text) → is_good ws nothing ≡ true → IsAccepted ws

@@ -5,7 +5,7 @@ use Rattle.qk_report.specs.Token.{TokenData}
 use Rattle.qk_report.specs.TokenWords.{IsTokenOf}
 use Rattle.qk_words.specs.declared.options.OptionName.{OptionName}
 use Rattle.qk_words.specs.declared.options.OptionName.TheVariants.{Seed, Success, Ratio, MaxSize, Fuel, Workers, Window, Shrinks, Replay, Generate}
-use Rattle.qk_words.specs.declared.options.FlagName.TheVariants.{Greedy, Work}
+use Rattle.qk_words.specs.declared.options.FlagName.TheVariants.{Greedy, Work, CheckCoverage}
 use Rattle.qk_words.specs.Options.{Text, option_text, flag_text}
 use Rattle.qk_words.specs.Parts.{Part, given, is_given, number}
 use Rattle.qk_words.specs.Accepted.{IsSpelling}
@@ -36,6 +36,7 @@ pub record Gives (ps : List Part) (s : SettingsData) : Type 0 where
   pub shrinks : s.shrinks ≡ number_given Shrinks 1000 ps
   pub greedy : s.greedy ≡ is_given (flag_text Greedy) ps
   pub work : s.work ≡ is_given (flag_text Work) ps
+  pub check_coverage : s.check_coverage ≡ is_given (flag_text CheckCoverage) ps
   pub aim : IsAimGiven ps s.aim
 
 -- the words are accepted, and give these settings

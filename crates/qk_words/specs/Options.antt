@@ -3,7 +3,7 @@ use Rattle.std.specs.Prelude.{ℕ, ◌-◌, ◌^◌, ◌≤◌, List, Option, So
 use Rattle.qk_words.specs.declared.options.OptionName.{OptionName}
 use Rattle.qk_words.specs.declared.options.OptionName.TheVariants.{Seed, Success, Ratio, MaxSize, Fuel, Workers, Window, Shrinks, Replay, Generate}
 use Rattle.qk_words.specs.declared.options.FlagName.{FlagName}
-use Rattle.qk_words.specs.declared.options.FlagName.TheVariants.{Greedy, Work}
+use Rattle.qk_words.specs.declared.options.FlagName.TheVariants.{Greedy, Work, CheckCoverage}
 
 abbrev pub Text : Type 0
 Text = List ℕ
@@ -23,6 +23,7 @@ option_text Generate = codes "generate"
 abbrev pub flag_text : FlagName → Text
 flag_text Greedy = codes "greedy"
 flag_text Work = codes "work"
+flag_text CheckCoverage = codes "check-coverage"
 
 -- the least and the greatest number that the option takes; `--replay` takes a token
 abbrev pub range_of : OptionName → Option (ℕ × ℕ)

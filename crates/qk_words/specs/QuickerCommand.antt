@@ -26,7 +26,7 @@ abbrev pub with_aim_options : App → App
 with_aim_options app = with_rule (with_rule app (valued (codes "replay"))) (valued (codes "generate"))
 
 abbrev pub with_flags : App → App
-with_flags app = with_rule (with_rule app (flagged (codes "greedy"))) (flagged (codes "work"))
+with_flags app = with_rule (with_rule (with_rule app (flagged (codes "greedy"))) (flagged (codes "work"))) (flagged (codes "check-coverage"))
 
 abbrev pub quicker : App
 quicker = with_rule (with_flags (with_aim_options (with_work_options (with_loop_options bare_app)))) (unnamed (codes "file"))

@@ -24,6 +24,7 @@ pub record SettingsData : Type 0 where
   pub shrinks : ℕ
   pub greedy : Bool
   pub work : Bool
+  pub check_coverage : Bool
   pub aim : AimData
 
 abbrev pub aim_in : Aim → AimData
@@ -43,6 +44,7 @@ settings_in s = record {
   shrinks = s.shrinks;
   greedy = s.greedy;
   work = s.work;
+  check_coverage = s.check_coverage;
   aim = aim_in s.aim;
 }
 

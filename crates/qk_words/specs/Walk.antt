@@ -5,7 +5,7 @@ use Rattle.std.specs.Str.{bytes_eq}
 use Rattle.qk_words.specs.declared.options.OptionName.{OptionName}
 use Rattle.qk_words.specs.declared.options.OptionName.TheVariants.{Seed, Success, Ratio, MaxSize, Fuel, Workers, Window, Shrinks, Replay, Generate}
 use Rattle.qk_words.specs.declared.options.FlagName.{FlagName}
-use Rattle.qk_words.specs.declared.options.FlagName.TheVariants.{Greedy, Work}
+use Rattle.qk_words.specs.declared.options.FlagName.TheVariants.{Greedy, Work, CheckCoverage}
 use Rattle.qk_words.specs.declared.walk.State.{State}
 use Rattle.qk_words.specs.Options.{Text, option_text, flag_text}
 use Rattle.qk_words.specs.Parts.{is_plain, fits}
@@ -44,7 +44,8 @@ abbrev pub option_of : Text → Option (OptionName × Option Text)
 option_of w = or_else (first_named loop_options w) (first_named other_options w)
 
 abbrev pub flag_of : Text → Option FlagName
-flag_of w = if bytes_eq w (flag_text Greedy) then Some Greedy else (if bytes_eq w (flag_text Work) then Some Work else None)
+flag_of w =
+    if bytes_eq w (flag_text Greedy) then Some Greedy else (if bytes_eq w (flag_text Work) then Some Work else (if bytes_eq w (flag_text CheckCoverage) then Some CheckCoverage else None))
 
 -- the place of what can be given once
 abbrev pub option_place : OptionName → ℕ
@@ -62,9 +63,10 @@ option_place Generate = 9
 abbrev pub flag_place : FlagName → ℕ
 flag_place Greedy = 10
 flag_place Work = 11
+flag_place CheckCoverage = 12
 
 abbrev pub file_place : ℕ
-file_place = 12
+file_place = 13
 
 abbrev pub has : ℕ → State → Bool
 has place s = slice_index_or s.seen place false
@@ -109,4 +111,4 @@ is_good [] s = not (is_some s.waits) && ends_well s
 is_good (w ∷ ws) s = option_map_or (is_good ws) (step s w) false
 
 abbrev pub nothing : State
-nothing = record { waits = None; seen = false ∷ false ∷ false ∷ false ∷ false ∷ false ∷ false ∷ false ∷ false ∷ false ∷ false ∷ false ∷ false ∷ [] }
+nothing = record { waits = None; seen = false ∷ false ∷ false ∷ false ∷ false ∷ false ∷ false ∷ false ∷ false ∷ false ∷ false ∷ false ∷ false ∷ false ∷ [] }

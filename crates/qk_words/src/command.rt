@@ -69,7 +69,10 @@ fn with_aim_options<'w>(alloc: Global, command: Command<'w>) -> Result<Command<'
 fn with_flags<'w>(alloc: Global, command: Command<'w>) -> Result<Command<'w>, AllocError>
     ensures { IfOk result (λ c. app_of c ≡ with_flags (app_of command.entry)) }
 {
-    command.arg(flag(alloc, "greedy"))?.arg(flag(alloc, "work"))
+    command
+        .arg(flag(alloc, "greedy"))?
+        .arg(flag(alloc, "work"))?
+        .arg(flag(alloc, "check-coverage"))
 }
 
 /// The command that takes every accepted list of words.

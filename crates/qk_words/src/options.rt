@@ -22,6 +22,7 @@ pub enum OptionName {
 pub enum FlagName {
     Greedy,
     Work,
+    CheckCoverage,
 }
 
 impl OptionName {
@@ -69,6 +70,7 @@ impl FlagName {
         match self {
             FlagName::Greedy => "greedy",
             FlagName::Work => "work",
+            FlagName::CheckCoverage => "check-coverage",
         }
     }
 }

@@ -55,6 +55,7 @@ fn settings_for<'w>(matches: &ArgMatches<'w>, aim: Aim<'w>) -> Settings<'w>
         shrinks: small_number(matches, OptionName::Shrinks, 1_000),
         greedy: flag(matches, FlagName::Greedy),
         work: flag(matches, FlagName::Work),
+        check_coverage: flag(matches, FlagName::CheckCoverage),
         aim,
     }
 }

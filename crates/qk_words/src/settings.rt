@@ -25,6 +25,7 @@ pub struct Settings<'w> {
     pub shrinks: u32,
     pub greedy: bool,
     pub work: bool,
+    pub check_coverage: bool,
     pub aim: Aim<'w>,
 }
 

@@ -13,11 +13,11 @@ pub(crate) struct State {
     /// The option whose value is the next word.
     waits: Option<OptionName>,
     /// What was given: the options, the flags, FILE.
-    seen: [bool; 13],
+    seen: [bool; 14],
 }
 
 /// The place of FILE.
-const FILE: usize = 12;
+const FILE: usize = 13;
 
 impl OptionName {
     /// Its place in what was given.
@@ -77,11 +77,12 @@ impl FlagName {
     /// Its place in what was given.
     fn place(self) -> usize
         ensures place { result ≡ flag_place self }
-        ensures small { result < 12 }
+        ensures small { result < 13 }
     {
         match self {
             FlagName::Greedy => 10,
             FlagName::Work => 11,
+            FlagName::CheckCoverage => 12,
         }
     }
 }
@@ -148,6 +149,8 @@ fn flag_of(name: &[u8]) -> Option<FlagName>
         Some(FlagName::Greedy)
     } else if name == b"work".as_slice() {
         Some(FlagName::Work)
+    } else if name == b"check-coverage".as_slice() {
+        Some(FlagName::CheckCoverage)
     } else {
         None
     }
@@ -155,14 +158,14 @@ fn flag_of(name: &[u8]) -> Option<FlagName>
 
 impl State {
     fn has(self, place: usize) -> bool
-        requires { place < 13 }
+        requires { place < 14 }
         ensures { result ≡ has place self }
     {
         self.seen[place]
     }
 
     fn marked(self, place: usize) -> State
-        requires { place < 13 }
+        requires { place < 14 }
         ensures { result ≡ marked place self }
     {
         let mut seen = self.seen;
@@ -263,7 +266,7 @@ fn walk(words: &[String]) -> bool
 {
     let mut state = State {
         waits: None,
-        seen: [false; 13],
+        seen: [false; 14],
     };
     for word in words {
         match state.step(word.as_bytes()) {
