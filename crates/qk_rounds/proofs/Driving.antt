@@ -126,6 +126,7 @@ failing_once : (finish : Finish) → failing finish ≤ 1
 failing_once finishes.Passed = omega arith
 failing_once finishes.GaveUp = omega arith
 failing_once (finishes.Failed attempt size cause) = omega arith
+failing_once (finishes.Uncovered clause) = omega arith
 
 fuel_left : (fuel rest : ℕ) → rest < fuel → (f : ℕ) × (fuel ≡ suc f)
 fuel_left zero rest h = absurd (omega (arith, h))

@@ -1,5 +1,5 @@
 -- The work of runs that were worked out by hand.
-use Rattle.std.proofs.Common.{◌≡◌, ℕ, ◌==◌, Bool, true, List, ◌∷◌, if◌then◌else◌, [], refl}
+use Rattle.std.proofs.Common.{◌≡◌, ℕ, ◌==◌, Bool, true, false, List, ◌∷◌, if◌then◌else◌, [], refl}
 use Rattle.qk_base.specs.Judged.{Judged}
 use Rattle.qk_base.specs.declared.outcome.Verdict.{Verdict}
 use Rattle.qk_base.specs.declared.outcome.Verdict.TheVariants.{Pass, Discard, Fail}
