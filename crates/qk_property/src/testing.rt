@@ -82,11 +82,7 @@ pub fn test_property<'c, R: Threads + Sync, G: Gate>(
 }
 
 // The limits of a property's run.
-fn limits_for(
-    alloc: Global,
-    property: &Property,
-    settings: &RunSettings,
-) -> Result<Limits, Memory>
+fn limits_for(alloc: Global, property: &Property, settings: &RunSettings) -> Result<Limits, Memory>
     ensures limits { IfOk result (λ limits. limits ≡ limits_of (report_settings settings.now) property.now) }
     ensures few { IfOk result (λ limits. length limits.covers < 2 ^ 32) }
 {

@@ -16,7 +16,8 @@ const TWO_GOALS: &str =
     "(prop a (forall ((x size)) (check true) (cover 51 (< x 50) small) (cover 50 (< x 0) none)))";
 
 // One test passes, which does not tell; from then on every attempt is discarded.
-const STALLS: &str = "(prop a (forall ((x size)) (given (< x 1)) (check true) (cover 50 (< x 1) zero)))";
+const STALLS: &str =
+    "(prop a (forall ((x size)) (given (< x 1)) (check true) (cover 50 (< x 1) zero)))";
 
 const PASSED: &str = "properties: 1, passed 1, failed 0, gave up 0\n";
 
@@ -117,14 +118,19 @@ fn half_takes_all_tests(rt: HostRuntime) -> Result<(), Fail> {
 // Windows end at checkpoints, and workers decide nothing.
 #[test]
 fn workers_do_not_decide_coverage(rt: HostRuntime) -> Result<(), Fail> {
-    let block = "a: not covered after 800 tests, 0 discarded\ncover small: 400 of 800, wanted 60%, not met\n";
+    let block =
+        "a: not covered after 800 tests, 0 discarded\ncover small: 400 of 800, wanted 60%, not met\n";
     for workers in [1, 2, 7, 64] {
         let words = format!(in rt.alloc(); "--check-coverage --workers {workers} f")?;
         let text = format!(in rt.alloc(); "{block}{FAILED}")?;
         says(&rt, words.as_str(), SMALL_60, 1, text.as_str())?;
         for (window, work) in [(1, 800), (8, 101), (4096, 4)] {
-            let words = format!(in rt.alloc(); "--check-coverage --work --window {window} --workers {workers} f")?;
-            let text = format!(in rt.alloc(); "{block}work: windows {work}, rounds {work}, trials 800\n{FAILED}")?;
+            let words = format!(in rt.alloc();
+                "--check-coverage --work --window {window} --workers {workers} f"
+            )?;
+            let text = format!(in rt.alloc();
+                "{block}work: windows {work}, rounds {work}, trials 800\n{FAILED}"
+            )?;
             says(&rt, words.as_str(), SMALL_60, 1, text.as_str())?;
         }
     }
