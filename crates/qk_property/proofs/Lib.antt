@@ -1,4 +1,5 @@
 pub mod CommittedCounts
+pub mod Ending
 pub mod Failures
 pub mod Fitting
 pub mod Generators

@@ -3,6 +3,7 @@ use Rattle.std.proofs.Crossing.{crosses}
 use denote.Param.Send.{sendable}
 use Rattle.qk_core.proofs.Sends.{core_sync, property_sync}
 use Rattle.qk_schedule.specs.LimitsData.{LimitsData, InRange}
+use Rattle.qk_property.proofs.Ending.{tested_by_windows}
 use Rattle.qk_property.proofs.Fitting.{as_many_percents, course_takes_at, limits_in_range, tables_take_at}
 use Rattle.qk_property.proofs.testing.test_property.Goals as goal
 
@@ -36,3 +37,11 @@ pub drive_freely-requires-clause-tally_takes : goal.drive_freely-requires-clause
 drive_freely-requires-clause-tally_takes g c κs within =
     let trial = c.make-trial.result in
     tables_take_at c.args.property.now trial.property.now c.in_ok-tables.tables.property.now c.make-trial.ensures.property c.in_ok-tables.ensures.made trial.core.now trial.seed trial.fuel
+
+pub returns-then-settings : goal.returns-then-settings
+returns-then-settings g c =
+    let trial = c.make-trial.result in
+    tested_by_windows c.args.settings.now c.args.core.now trial.core.now c.args.property.now trial.property.now c.make-course.result.limits trial.seed trial.fuel
+    (c.make-course.ensures ∙ c.in_ok-limits.ensures.limits) c.make-trial.ensures.core c.make-trial.ensures.property c.make-trial.ensures.seed c.make-trial.ensures.fuel
+    c.in_ok-state.field-0.state c.in_ok-state.field-0.finish c.in_ok-state.field-0.work c.drive.new.tally c.if-settings.true
+    c.in_ok-state.ensures.run c.in_ok-state.ensures.tally (c.drive.ensures.same_made ∙ c.in_ok-tables.ensures.made) c.in_ok-state.ensures.work
