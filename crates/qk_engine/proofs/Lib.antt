@@ -1,4 +1,5 @@
 pub mod Agreeing
+pub mod Aimed
 pub mod GeneratedLines
 pub mod GeneratedNames
 pub mod GeneratedProgram
