@@ -4,6 +4,7 @@ pub mod Forms
 pub mod Meaning
 pub mod Nodes
 pub mod Parts
+pub mod Places
 pub mod Rows
 pub mod Pending
 pub mod Sizes

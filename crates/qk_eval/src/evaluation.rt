@@ -101,18 +101,19 @@ fn run<'e>(
 {
     let mut bound = env;
     let mut frames = Vec::new(alloc);
+    let mut spare = Vec::new(alloc);
     let mut left = fuel;
     let mut control = first;
     'steps: loop {
         control = match control {
-            Control::Evaluate(expr) => evaluate(alloc, expr, &bound, &mut frames)?,
+            Control::Evaluate(expr) => evaluate(alloc, expr, &mut bound, &mut frames, &mut spare)?,
             Control::Gathered { then, parts } => {
                 gathered(alloc, core, then, parts, &mut bound, &mut frames, &mut left)?
             }
             Control::Crash(cause) => return Ok(Ending::Crash(cause)),
             Control::Return(value) => match frames.pop() {
                 None => return Ok(Ending::Value { value, left }),
-                Some(frame) => go_on(alloc, frame, value, &mut bound, &mut frames)?,
+                Some(frame) => go_on(alloc, frame, value, &mut bound, &mut frames, &mut spare)?,
             },
         };
     }

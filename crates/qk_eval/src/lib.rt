@@ -3,6 +3,7 @@
 
 mod answer;
 mod conversion;
+mod direct;
 mod ending;
 mod evaluation;
 mod form;

@@ -10,6 +10,7 @@ ghost use Rattle.qk_eval.specs.Pending.{one_of, control_of, outcome, resume, aft
 ghost use Rattle.qk_eval.specs.declared.pending.Frame.{Frame};
 ghost use Rattle.qk_eval.specs.Work.{size, sizes, case_sizes, frame_size, frames_size, control_size, bodies_size};
 
+use crate::direct::direct;
 use crate::operators::{binary, decided, unary};
 use crate::pending::{Control, Frame, Then};
 use crate::shared::Shared;
@@ -22,13 +23,14 @@ use std::mem;
 pub(crate) fn evaluate<'e>(
     alloc: Global,
     expr: &'e Expr,
-    env: &Vec<Shared>,
+    env: &mut Vec<Shared>,
     frames: &mut Vec<Frame<'e>>,
+    spare: &mut Vec<Vec<Shared>>,
 ) -> Result<Control<'e>, Memory>
     ensures smaller { IfOk result (λ next. control_size next + frames_size frames.new.items < size (view_expr expr.now) + frames_size frames.old.items) }
     ensures same { IfOk result (λ next. (functions : List FunctionData) (u : ℕ) →
-        outcome functions frames.new.items env.now.items next u
-        ≡ outcome functions frames.old.items env.now.items (Control.Evaluate expr.entry) u) }
+        outcome functions frames.new.items env.new.items next u
+        ≡ outcome functions frames.old.items env.old.items (Control.Evaluate expr.entry) u) }
 {
     match expr {
         Expr::Int(n) => Ok(Control::Return(Shared::int(*n))),
@@ -39,48 +41,64 @@ pub(crate) fn evaluate<'e>(
             Ok(Control::Return(value))
         }
         Expr::Unary(op, a) => {
-            let next = wait(frames, Frame::Apply(*op), a)?;
+            let next = wait(alloc, Frame::Apply(*op), a, env, frames, spare)?;
             Ok(next)
         }
         Expr::Binary(op, a, b) => {
-            let next = wait(frames, Frame::First(*op, b), a)?;
+            let next = wait(alloc, Frame::First(*op, b), a, env, frames, spare)?;
             Ok(next)
         }
         Expr::If(c, a, b) => {
-            let next = wait(frames, Frame::Branch(a, b), c)?;
+            let next = wait(alloc, Frame::Branch(a, b), c, env, frames, spare)?;
             Ok(next)
         }
         Expr::Let(a, b) => {
-            let next = wait(frames, Frame::Body(b), a)?;
+            let next = wait(alloc, Frame::Body(b), a, env, frames, spare)?;
             Ok(next)
         }
         Expr::Match(a, cases) => {
-            let next = wait(frames, Frame::Cases(cases.as_slice()), a)?;
+            let next = wait(alloc, Frame::Cases(cases.as_slice()), a, env, frames, spare)?;
             Ok(next)
         }
         Expr::Make { kind, maker, parts } => {
             let (kind, maker) = (*kind, *maker);
-            let next = begin(alloc, Then::Make { kind, maker }, parts.as_slice(), frames)?;
+            let then = Then::Make { kind, maker };
+            let next = begin(alloc, then, parts.as_slice(), env, frames, spare)?;
             Ok(next)
         }
         Expr::Call { function, args } => {
-            let next = begin(alloc, Then::Call(*function), args.as_slice(), frames)?;
+            let then = Then::Call(*function);
+            let next = begin(alloc, then, args.as_slice(), env, frames, spare)?;
             Ok(next)
         }
     }
 }
 
-// A piece of pending work, and the expression before it.
+// A piece of work and the expression before it, whose value it goes on with at once where that needs no work of its own.
 fn wait<'e>(
-    frames: &mut Vec<Frame<'e>>,
+    alloc: Global,
     frame: Frame<'e>,
     first: &'e Expr,
+    env: &mut Vec<Shared>,
+    frames: &mut Vec<Frame<'e>>,
+    spare: &mut Vec<Vec<Shared>>,
 ) -> Result<Control<'e>, Memory>
-    ensures next { IfOk result (λ next. next ≡ Control.Evaluate first.entry) }
-    ensures frames { OnOk result (frames.new.items ≡ frames.old.items ++ frame.entry ∷ []) }
+    ensures smaller { IfOk result (λ next. control_size next + frames_size frames.new.items ≤ size (view_expr first.now) + frame_size frame.entry + frames_size frames.old.items) }
+    ensures same { IfOk result (λ next. (functions : List FunctionData) (u : ℕ) →
+        outcome functions frames.new.items env.new.items next u
+        ≡ and_then (meaning functions (view_expr first.now) env.old.items u) (after functions (resume functions frames.old.items) frame.entry env.old.items)) }
 {
-    frames.push(frame)?;
-    Ok(Control::Evaluate(first))
+    match direct(alloc, first, env)? {
+        Some(Ok(value)) => {
+            let next = go_on(alloc, frame, value, env, frames, spare)?;
+            Ok(next)
+        }
+        Some(Err(cause)) => Ok(Control::Crash(cause)),
+        None => {
+            frames.push(frame)?;
+            Ok(Control::Evaluate(first))
+        }
+    }
 }
 
 // The value of a variable.
@@ -98,13 +116,15 @@ fn begin<'e>(
     alloc: Global,
     then: Then,
     parts: &'e [Expr],
+    env: &mut Vec<Shared>,
     frames: &mut Vec<Frame<'e>>,
+    spare: &mut Vec<Vec<Shared>>,
 ) -> Result<Control<'e>, Memory>
     ensures smaller { IfOk result (λ next. control_size next + frames_size frames.new.items < sizes (view_exprs parts.now) + 4 + frames_size frames.old.items) }
-    ensures same { IfOk result (λ next. (functions : List FunctionData) (env : List Data) (u : ℕ) →
-        outcome functions frames.new.items env next u
-        ≡ and_then (mean_all (calling functions) (view_exprs parts.now) env u) (λ xs v.
-        and_then (then_does functions then xs v) (resume functions frames.old.items env))) }
+    ensures same { IfOk result (λ next. (functions : List FunctionData) (u : ℕ) →
+        outcome functions frames.new.items env.new.items next u
+        ≡ and_then (mean_all (calling functions) (view_exprs parts.now) env.old.items u) (λ xs v.
+        and_then (then_does functions then xs v) (resume functions frames.old.items env.old.items))) }
 {
     match parts.split_first() {
         None => Ok(Control::Gathered {
@@ -112,10 +132,38 @@ fn begin<'e>(
             parts: Vec::new(alloc),
         }),
         Some((first, rest)) => {
-            let done = Vec::with_capacity(alloc, parts.len())?;
-            frames.push(Frame::Gather { then, rest, done })?;
-            Ok(Control::Evaluate(first))
+            let done = room(alloc, then, parts.len(), spare)?;
+            let next = wait(
+                alloc,
+                Frame::Gather { then, rest, done },
+                first,
+                env,
+                frames,
+                spare,
+            )?;
+            Ok(next)
         }
+    }
+}
+
+// An empty list for so many parts: of a call, whose arguments become an environment, one that an earlier call left, if there is one.
+fn room(
+    alloc: Global,
+    then: Then,
+    many: usize,
+    spare: &mut Vec<Vec<Shared>>,
+) -> Result<Vec<Shared>, Memory>
+    ensures { IfOk result (λ list. list.items ≡ []) }
+{
+    match then {
+        Then::Call(_) => match spare.pop() {
+            Some(mut left) => {
+                left.clear();
+                Ok(left)
+            }
+            None => Ok(Vec::with_capacity(alloc, many)?),
+        },
+        Then::Make { .. } => Ok(Vec::with_capacity(alloc, many)?),
     }
 }
 
@@ -150,22 +198,31 @@ fn or_crash<'e>(given: Result<Shared, Cause>) -> Control<'e>
 
 // The first value of two: it decides alone, or waits for the second.
 fn take_first<'e>(
+    alloc: Global,
     op: Op2,
     value: Shared,
     second: &'e Expr,
+    env: &Vec<Shared>,
     frames: &mut Vec<Frame<'e>>,
 ) -> Result<Control<'e>, Memory>
     ensures smaller { IfOk result (λ next. control_size next + frames_size frames.new.items < size (view_expr second.now) + 2 + frames_size frames.old.items) }
-    ensures same { IfOk result (λ next. (functions : List FunctionData) (env : List Data) (u : ℕ) →
-        outcome functions frames.new.items env next u
-        ≡ and_then (or_else (decided_by op value) (λ u. and_then (meaning functions (view_expr second.now) env u) (λ y v. or_crash_of (binary_of op value y) v)) u) (resume functions frames.old.items env)) }
+    ensures same { IfOk result (λ next. (functions : List FunctionData) (u : ℕ) →
+        outcome functions frames.new.items env.now.items next u
+        ≡ and_then (or_else (decided_by op value) (λ u. and_then (meaning functions (view_expr second.now) env.now.items u) (λ y v. or_crash_of (binary_of op value y) v)) u) (resume functions frames.old.items env.now.items)) }
 {
     match decided(op, &value) {
         Some(found) => Ok(Control::Return(Shared::truth(found))),
-        None => {
-            frames.push(Frame::Second(op, value))?;
-            Ok(Control::Evaluate(second))
-        }
+        None => match direct(alloc, second, env)? {
+            Some(Ok(other)) => {
+                let given = binary(alloc, op, value, other)?;
+                Ok(or_crash(given))
+            }
+            Some(Err(cause)) => Ok(Control::Crash(cause)),
+            None => {
+                frames.push(Frame::Second(op, value))?;
+                Ok(Control::Evaluate(second))
+            }
+        },
     }
 }
 
@@ -207,25 +264,34 @@ fn take_case<'e>(
 
 // One more of a list of parts, and then the rest.
 fn gather<'e>(
+    alloc: Global,
     then: Then,
     rest: &'e [Expr],
     mut done: Vec<Shared>,
     value: Shared,
+    env: &Vec<Shared>,
     frames: &mut Vec<Frame<'e>>,
 ) -> Result<Control<'e>, Memory>
     ensures smaller { IfOk result (λ next. control_size next + frames_size frames.new.items < sizes (view_exprs rest.now) + 3 + frames_size frames.old.items) }
-    ensures same { IfOk result (λ next. (functions : List FunctionData) (env : List Data) (u : ℕ) →
-        outcome functions frames.new.items env next u
-        ≡ and_then (mean_all (calling functions) (view_exprs rest.now) env u) (λ xs v.
-        and_then (then_does functions then (done.items ++ value ∷ xs) v) (resume functions frames.old.items env))) }
+    ensures same { IfOk result (λ next. (functions : List FunctionData) (u : ℕ) →
+        outcome functions frames.new.items env.now.items next u
+        ≡ and_then (mean_all (calling functions) (view_exprs rest.now) env.now.items u) (λ xs v.
+        and_then (then_does functions then (done.items ++ value ∷ xs) v) (resume functions frames.old.items env.now.items))) }
 {
     done.push(value)?;
     match rest.split_first() {
         None => Ok(Control::Gathered { then, parts: done }),
-        Some((first, rest)) => {
-            frames.push(Frame::Gather { then, rest, done })?;
-            Ok(Control::Evaluate(first))
-        }
+        Some((first, rest)) => match direct(alloc, first, env)? {
+            Some(Ok(next)) => {
+                let next = gather(alloc, then, rest, done, next, env, frames)?;
+                Ok(next)
+            }
+            Some(Err(cause)) => Ok(Control::Crash(cause)),
+            None => {
+                frames.push(Frame::Gather { then, rest, done })?;
+                Ok(Control::Evaluate(first))
+            }
+        },
     }
 }
 
@@ -236,6 +302,7 @@ pub(crate) fn go_on<'e>(
     value: Shared,
     env: &mut Vec<Shared>,
     frames: &mut Vec<Frame<'e>>,
+    spare: &mut Vec<Vec<Shared>>,
 ) -> Result<Control<'e>, Memory>
     ensures smaller { IfOk result (λ next. control_size next + frames_size frames.new.items < frame_size frame.entry + frames_size frames.old.items) }
     ensures same { IfOk result (λ next. (functions : List FunctionData) (u : ℕ) →
@@ -245,7 +312,7 @@ pub(crate) fn go_on<'e>(
     match frame {
         Frame::Apply(op) => Ok(or_crash(unary(op, &value))),
         Frame::First(op, b) => {
-            let next = take_first(op, value, b, frames)?;
+            let next = take_first(alloc, op, value, b, env, frames)?;
             Ok(next)
         }
         Frame::Second(op, first) => {
@@ -267,11 +334,13 @@ pub(crate) fn go_on<'e>(
             Ok(Control::Return(value))
         }
         Frame::Gather { then, rest, done } => {
-            let next = gather(then, rest, done, value, frames)?;
+            let next = gather(alloc, then, rest, done, value, env, frames)?;
             Ok(next)
         }
         Frame::Leave(old) => {
-            *env = old;
+            let mut left = mem::replace(env, old);
+            left.clear();
+            spare.push(left)?;
             Ok(Control::Return(value))
         }
     }

@@ -1,6 +1,7 @@
 //! What is done to one value and to two.
-ghost use Rattle.std.specs.Prelude.{◌≡◌, ◌+ℤ◌, ◌-ℤ◌, ◌*ℤ◌, IfOk, Option, Bool, ℤ};
+ghost use Rattle.std.specs.Prelude.{◌≡◌, ◌+ℤ◌, ◌-ℤ◌, ◌*ℤ◌, IfOk, IsTrue, not, Option, Bool, ℤ};
 ghost use Rattle.qk_eval.specs.Parts.{number_of};
+ghost use Rattle.qk_eval.specs.Places.{builds};
 ghost use Rattle.qk_eval.specs.Meaning.{unary_of, binary_of, decided_by, overflow_unless, number_if_fits, quotient as quotient_of, remainder as remainder_of};
 
 use crate::shared::Shared;
@@ -29,18 +30,29 @@ pub(crate) fn binary(
     ensures { IfOk result (λ r. r ≡ binary_of op x y) }
 {
     match op {
-        Op2::Add => Ok(sum(&x, &y)),
-        Op2::Sub => Ok(difference(&x, &y)),
-        Op2::Mul => Ok(product(&x, &y)),
-        Op2::Div => Ok(quotient(x.number(), y.number())),
-        Op2::Mod => Ok(remainder(x.number(), y.number())),
-        Op2::Equal => Ok(Ok(Shared::truth(x.compare(&y).is_eq()))),
-        Op2::Less => Ok(Ok(Shared::truth(x.compare(&y).is_lt()))),
-        Op2::AtMost => Ok(Ok(Shared::truth(x.compare(&y).is_le()))),
-        Op2::And | Op2::Or => Ok(Ok(Shared::truth(y.is_true()))),
         Op2::Cons => Shared::cons(alloc, x, y),
         Op2::Append => Shared::append(alloc, &x, y),
         Op2::Pair => Shared::pair(alloc, x, y),
+        _ => Ok(looked(op, &x, &y)),
+    }
+}
+
+/// What an operator that only looks at two values makes of them, or why it makes nothing.
+pub(crate) fn looked(op: Op2, x: &Shared, y: &Shared) -> Result<Shared, Cause>
+    requires { IsTrue (not (builds op)) }
+    ensures { result ≡ binary_of op x.now y.now }
+{
+    match op {
+        Op2::Add => sum(x, y),
+        Op2::Sub => difference(x, y),
+        Op2::Mul => product(x, y),
+        Op2::Div => quotient(x.number(), y.number()),
+        Op2::Mod => remainder(x.number(), y.number()),
+        Op2::Equal => Ok(Shared::truth(x.compare(y).is_eq())),
+        Op2::Less => Ok(Shared::truth(x.compare(y).is_lt())),
+        Op2::AtMost => Ok(Shared::truth(x.compare(y).is_le())),
+        Op2::And | Op2::Or => Ok(Shared::truth(y.is_true())),
+        Op2::Cons | Op2::Append | Op2::Pair => unreachable!(),
     }
 }
 
