@@ -1,0 +1,3 @@
+pub mod Laws
+pub mod Reported
+pub mod ReservedWords

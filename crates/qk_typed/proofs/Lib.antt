@@ -1,0 +1,10 @@
+pub mod Candidates
+pub mod Commands
+pub mod Drawing
+pub mod DrawnValues
+pub mod Judging
+pub mod Places
+pub mod Programs
+pub mod Series
+pub mod Typing
+pub mod ValueTypes
